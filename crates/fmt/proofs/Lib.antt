@@ -1,0 +1,2 @@
+-- Laws of texts that are made.
+pub mod Text

@@ -1,0 +1,20 @@
+-- Theorems about the definition, lowest first.
+pub mod Bytes
+pub mod Results
+pub mod Lists
+pub mod Reading
+pub mod Good
+pub mod Walk
+pub mod Fuel
+pub mod Order
+pub mod Gaps
+pub mod Runs
+pub mod Laid
+pub mod Fields
+pub mod Texts
+pub mod Tree
+pub mod TreeCode
+pub mod Demand3
+pub mod Blank
+pub mod Computed
+pub mod Answers

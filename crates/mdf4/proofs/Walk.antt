@@ -1,0 +1,133 @@
+-- The walk is good, and so two recordings that agree on what the first one reads give one state.
+use mathlib.Core.Path.{_≡_, refl}
+use mathlib.Core.Bool.{true}
+use mathlib.Core.List.{List}
+use Prim.Native.Nat.{ℕ, zero, suc, _+_}
+use lib.Dec.{leb, eqb}
+use Rattle.mdf4.specs.Bytes.{bytes}
+use Rattle.mdf4.specs.Act.{refusal, ok, and-then, Kind, ID, UT, UD, Link, State, Limits, Act, choose, pure, _>>_, elem, visit, once}
+use Rattle.mdf4.specs.Kinds.{RecordLayout, no-records}
+use Rattle.mdf4.specs.Walk.{enter, text-kind, enter-text, walk-text-like, walk-source, walk-conversion, record-data-block, record-unknown-block, walk-data-block, walk-data-region, walk-channel, walk-channel-group, walk-data-group, walk-header, start, walk-identification, walk, walk-data-list, list-too-deep, Handed}
+use Rattle.mdf4.specs.Reads.{read-ranges}
+use Rattle.mdf4.proofs.Results.{and-then-ok, ok-both}
+use Rattle.mdf4.proofs.Reading.{read-ranges-same, row-links, Agree}
+use Rattle.mdf4.proofs.Good.{Good, Any, Ready, Inv, good-pure, good-stop, good-bind, good-then, good-choose, good-sized, good-seen, good-weaken, good-chain, good-each, good-once, good-enter, enter-head, enter-listed, offs}
+
+pub ruleset shapes = (good-pure, good-stop, good-bind, good-then, good-choose, good-sized, good-seen, good-chain, good-each, good-once, good-enter)
+
+pub good-enter-text : (a : ℕ) → Good (Ready a) (enter-text a)
+unfolding enter-text and-then
+good-enter-text a = record {
+  went = λ r s x s' e.
+      let k = text-kind (bytes r a 24) in
+      let q = and-then-ok (enter k a (no-records 0) r s) (λ p. ok (tt {0}, p.1)) (x, s') e in
+      let z : q .0 .1 ≡ s' = ok-both tt x (q .0 .1) s' (q .2) .1 in
+      let w = good-enter k a (no-records 0) .went r s (q .0 .0) (q .0 .1) (q .1) in
+      record {
+        grows = λ i h. rw z at (w .grows i h);
+        keeps = λ d v. rw z at (w .keeps d v);
+        longer = rw z at (w .longer);
+        fits = λ q. rw z at (w .fits q);
+        kept = rw z at (w .kept);
+        listed = λ i h. rw z at (w .listed i h);
+        again = λ r' c.
+            let c' : Agree r r' (q .0 .1) = rw z c in
+            rw (← enter-head k a (no-records 0) r r' s (q .0 .0) (q .0 .1) (q .1) c', w .again r' c') (q .2);
+      };
+}
+
+pub good-walk-text-like : (a : ℕ) → Good Any (walk-text-like a)
+unfolding walk-text-like
+good-walk-text-like a = good-choose Any (eqb a 0) _ _ (good-pure tt) (good-once UT a tt _ (good-sized (Ready a) _ (λ n.
+    good-choose (Ready a) _ _ _ (good-choose (Ready a) _ _ _ (good-enter-text a) (good-weaken (Ready a) _ (good-pure tt))) (good-stop (Ready a) UT a (refusal 7 a a 24)))))
+
+pub good-walk-source : (a : ℕ) → Good Any (walk-source a)
+unfolding walk-source
+good-walk-source a = search (shapes, good-walk-text-like) depth 12
+
+pub good-walk-conversion : (ch a : ℕ) → Good Any (walk-conversion ch a)
+unfolding walk-conversion
+good-walk-conversion ch a = search shapes depth 12
+
+pub good-record-data-block : (k : Kind) (a : ℕ) (h : RecordLayout) → Good Any (record-data-block k a h)
+unfolding record-data-block
+good-record-data-block k a h = search shapes depth 12
+
+pub good-record-unknown-block : (a : ℕ) → Good Any (record-unknown-block a)
+unfolding record-unknown-block
+good-record-unknown-block a = good-once UD a tt _ (good-sized (Ready a) _ (λ n. good-choose (Ready a) (leb (a + 24) n) _ _
+    (search shapes depth 12) (good-weaken (Ready a) _ (good-pure tt))))
+
+pub good-walk-data-block : (h : RecordLayout) (l : Link) → Good Any (walk-data-block h l)
+unfolding walk-data-block
+good-walk-data-block h l = search (shapes, good-record-data-block, good-record-unknown-block) depth 12
+
+pub good-walk-data-list : (f : Link → Act (Unit {0})) → ((l : Link) → Good Any (f l)) → (a : ℕ) → Good Any (walk-data-list f a)
+unfolding walk-data-list
+good-walk-data-list f g a = search (shapes, g) depth 12
+
+pub good-list-too-deep : (a : ℕ) → Good Any (list-too-deep a)
+unfolding list-too-deep
+good-list-too-deep a = search shapes depth 12
+
+pub good-walk-data-region : (d : ℕ) (h : RecordLayout) (l : Link) → Good Any (walk-data-region d h l)
+unfolding walk-data-region
+good-walk-data-region zero h l = search (shapes, good-walk-data-block, good-list-too-deep) depth 12
+good-walk-data-region (suc d) h l =
+    let ih : (l : Link) → Good Any (walk-data-region d h l) = good-walk-data-region d h in
+    search (shapes, good-walk-data-block, good-walk-data-list, ih) depth 12
+
+pub good-walk-channel : (a : ℕ) (u : Unit {0}) → Good Any (walk-channel a u)
+unfolding walk-channel
+good-walk-channel a u = search (shapes, good-walk-text-like, good-walk-source, good-walk-conversion, good-walk-data-region) depth 20
+
+pub good-walk-channel-group : (fuel rid a : ℕ) (got : Handed) → Good Any (walk-channel-group fuel rid a got)
+unfolding walk-channel-group
+good-walk-channel-group fuel rid a got = search (shapes, good-walk-text-like, good-walk-source, good-walk-channel) depth 20
+
+pub good-walk-data-group : (fuel a : ℕ) (u : Unit {0}) → Good Any (walk-data-group fuel a u)
+unfolding walk-data-group
+good-walk-data-group fuel a u = search (shapes, good-walk-text-like, good-walk-channel-group, good-walk-data-region) depth 20
+
+pub good-walk-header : (fuel : ℕ) → Good Any (walk-header fuel)
+unfolding walk-header
+good-walk-header fuel = search (shapes, good-walk-text-like, good-walk-data-group) depth 20
+
+pub good-walk-identification : Good Any walk-identification
+unfolding walk-identification
+good-walk-identification = search shapes depth 12
+
+-- Demand 3: the walk of another recording that agrees on the read bytes
+pub walk-again : (lim : Limits) (r r' : List ℕ) (s : State) → walk r (start lim) ≡ ok (tt, s) → Agree r r' s → walk r' (start lim) ≡ ok (tt, s)
+unfolding walk start
+walk-again lim r r' s e c =
+    good-then Any walk-identification (walk-header (lim .visited)) good-walk-identification (good-walk-header (lim .visited))
+    .went r (start lim) tt s e .again r' c
+
+start-inv : (lim : Limits) (r : List ℕ) → Inv r (start lim)
+unfolding start elem row-links
+start-inv lim r = record { known = λ x h. h; apart = tt; tidy = tt; table = refl; placed = tt; whole = tt }
+
+pub walk-inv : (lim : Limits) (r : List ℕ) (s : State) → walk r (start lim) ≡ ok (tt, s) → Inv r s
+unfolding walk start
+walk-inv lim r s e =
+    good-then Any walk-identification (walk-header (lim .visited)) good-walk-identification (good-walk-header (lim .visited))
+    .went r (start lim) tt s e .keeps tt (start-inv lim r)
+
+-- the ID is listed
+id-listed : (r : List ℕ) (lim : Limits) (s : State) → walk-identification r (start lim) ≡ ok (tt, s) → elem 0 (offs (s .rows)) ≡ true
+unfolding walk-identification once choose start elem _>>_ pure
+id-listed r lim s e =
+    let p = and-then-ok (visit ID 0 r (start lim)) _ (tt {0}, s) e in
+    let q = and-then-ok (enter ID 0 (no-records 0) r (p .0 .1)) _ (tt {0}, s) (p .2) in
+    let z : q .0 .1 ≡ s = ok-both tt tt (q .0 .1) s (q .2) .1 in
+    rw z at (enter-listed ID 0 (no-records 0) r (p .0 .1) (q .0 .0) (q .0 .1) (q .1))
+
+pub walk-id : (lim : Limits) (r : List ℕ) (s : State) → walk r (start lim) ≡ ok (tt, s) → elem 0 (offs (s .rows)) ≡ true
+unfolding walk _>>_
+walk-id lim r s e =
+    let p = and-then-ok (walk-identification r (start lim)) _ (tt {0}, s) e in
+    good-walk-header (start lim .lent .visited) .went r (p .0 .1) tt s (p .2) .listed 0 (id-listed r lim (p .0 .1) (p .1))
+
+pub read-ranges-again : (lim : Limits) (r r' : List ℕ) (s : State) → walk r (start lim) ≡ ok (tt, s) → Agree r r' s → read-ranges r s ≡ read-ranges r' s
+read-ranges-again lim r r' s e c = read-ranges-same r r' s (walk-inv lim r s e .table) c

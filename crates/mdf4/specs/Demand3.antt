@@ -1,0 +1,84 @@
+-- Demand 3 as statements about what a call of an entry answers and leaves in the lent memory. proofs/Demand3.antt proves them of
+-- each entry's definition.
+use mathlib.Core.Path.{_≡_}
+use mathlib.Core.Bool.{Bool, true, false, not, _&&_}
+use mathlib.Core.List.{List, [], _∷_, map}
+use mathlib.Core.Logic.{_⊎_}
+use Prim.Native.Nat.{ℕ, zero, suc, _+_, _-_, _≤_, _<_}
+use lib.ListN.{length, getD, take, drop}
+use Rattle.mdf4.specs.Bytes.{Range, inside, bit, count}
+use Rattle.mdf4.specs.Act.{Out, ok, err, elem}
+use Rattle.mdf4.specs.Reads.{read-ranges}
+use Rattle.mdf4.specs.Layout.{Layout}
+use Rattle.mdf4.specs.Clear.{clr-bytes}
+use Rattle.mdf4.specs.Answers.{Lent, Counts, Exit, laid, block-row-words, pair-words}
+
+-- the read bytes of a recording that is accepted with these lent lengths
+unfoldable pub read-by : List ℕ → Out Layout → List Range
+read-by r (ok y) = read-ranges r (y .state)
+read-by r (err e) = []
+
+unfoldable pub read : Lent → List ℕ → List Range
+read n r = read-by r (laid n r)
+
+-- two recordings of one length agree on the read bytes of the first
+pub record Alike (n : Lent) (r r' : List ℕ) : Type 0 where
+  pub size : length r ≡ length r'
+  pub at : (i : ℕ) → i < length r → inside i (read n r) ≡ true → getD r i 0 ≡ getD r' i 0
+
+-- Two recordings: where the first is accepted and they are alike, the second gets the same answer, and the same words and
+-- bytes stand in all lent memory.
+pub record Again (entry : Lent → List ℕ → Exit) : Type 0 where
+  pub same : (n : Lent) (r r' : List ℕ) (c : Counts) → entry n r .answer ≡ ok c → Alike n r r' → entry n r' ≡ entry n r
+
+-- the ranges in the first two words of each of n rows of w words
+unfoldable pub ranges-in : ℕ → ℕ → List ℕ → List Range
+ranges-in w zero t = []
+ranges-in w (suc n) t = (getD t 0 0, getD t 1 0) ∷ ranges-in w n (drop w t)
+
+-- the extents and the gaps as they stand in the tables of an accepted call, and the listed offsets
+unfoldable pub extents-in : Exit → Counts → List Range
+extents-in e c = ranges-in block-row-words (c .blocks) (e .blocks)
+
+unfoldable pub gaps-in : Exit → Counts → List Range
+gaps-in e c = ranges-in pair-words (c .gaps) (e .gaps)
+
+unfoldable pub offsets : List Range → List ℕ
+offsets ps = map (λ (p : Range). p .0) ps
+
+-- the sum of f over the bytes below n, and the sum of the ranges' sizes
+unfoldable pub tally : (ℕ → ℕ) → ℕ → ℕ
+tally f zero = 0
+tally f (suc n) = tally f n + f n
+
+unfoldable pub sizes : List Range → ℕ
+sizes [] = 0
+sizes (p ∷ ps) = (p .1 - p .0) + sizes ps
+
+-- document 01's gap: not empty, cut at each listed offset inside it, and no shorter: it ends at a listed offset or at the file's end
+pub record Gap (len : ℕ) (offs : List ℕ) (g : Range) : Type 0 where
+  pub some : g .0 < g .1
+  pub cut : (j : ℕ) → g .0 < j → j < g .1 → elem j offs ≡ false
+  pub ends : (g .1 ≡ len) ⊎ (elem (g .1) offs ≡ true)
+
+-- The tables of an accepted call: listed offsets strictly ascend; each byte lies in exactly one gap if no extent holds it, else in
+-- none; each gap is one as document 01 has it; the gaps' sizes add up to the number of bytes that no extent holds.
+pub record Tables (r : List ℕ) (e : Exit) (c : Counts) : Type 0 where
+  pub ascend : (i j : ℕ) → i < j → j < c .blocks → getD (extents-in e c) i (0, 0) .0 < getD (extents-in e c) j (0, 0) .0
+  pub partition : (i : ℕ) → i < length r → count i (gaps-in e c) ≡ bit (not (inside i (extents-in e c)))
+  pub gap : (i : ℕ) → i < c .gaps → Gap (length r) (offsets (extents-in e c)) (getD (gaps-in e c) i (0, 0))
+  pub add-up : sizes (gaps-in e c) ≡ tally (λ i. bit (not (inside i (extents-in e c)))) (length r)
+
+-- ranges that hold bytes, in order, with at least one byte between any two, the first not below lo
+abbrev pub Apart : ℕ → List Range → Type 0
+Apart lo [] = Unit {0}
+Apart lo (p ∷ ps) = (lo ≤ p .0) × (p .0 < p .1) × Apart (suc (p .1)) ps
+
+-- The output of an accepted clear list: the CLR bytes of ranges that hold exactly the bytes that lie in a gap and are not read,
+-- and no list of ranges that holds the same bytes is shorter.
+pub record Cleared (n : Lent) (r : List ℕ) (e : Exit) (c : Counts) : Type 0 where
+  pub ranges : List Range
+  pub written : take (c .bytes) (e .out) ≡ clr-bytes (length r) ranges
+  pub exact : (i : ℕ) → inside i ranges ≡ (inside i (gaps-in e c) && not (inside i (read n r)))
+  pub apart : Apart 0 ranges
+  pub fewest : (qs : List Range) → ((j : ℕ) → inside j ranges ≡ inside j qs) → length ranges ≤ length qs

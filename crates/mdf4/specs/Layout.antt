@@ -1,0 +1,46 @@
+-- The layout: the rows by offset and the gaps between them, as `FileLayout::from_bytes` makes them; refusal 13 of the gap table.
+use mathlib.Core.Bool.{Bool, true, false, cond}
+use mathlib.Core.List.{List, [], _∷_, _++_, map}
+use Prim.Native.Nat.{ℕ, max}
+use lib.Dec.{leb, ltb}
+use lib.ListN.{length}
+use Rattle.mdf4.specs.Bytes.{Range}
+use Rattle.mdf4.specs.Act.{refusal, Out, ok, and-then, check, Row, State, Limits, reason}
+use Rattle.mdf4.specs.Walk.{walk, start}
+
+-- a stable sort by offset
+unfoldable pub insert : Row → List Row → List Row
+insert w [] = w ∷ []
+insert w (v ∷ vs) = cond (leb (w .off) (v .off)) (w ∷ v ∷ vs) (v ∷ insert w vs)
+
+unfoldable pub sort : List Row → List Row
+sort [] = []
+sort (w ∷ ws) = insert w (sort ws)
+
+-- a block's extent: from its offset up to, not including, its end
+abbrev pub extent : Row → Range
+extent w = (w .off, w .end)
+
+-- `compute_gaps`: from the cursor to the next offset, the cursor at the largest end so far; at last to the file's end
+unfoldable pub gap : ℕ → ℕ → List Range
+gap a b = cond (ltb a b) ((a, b) ∷ []) []
+
+unfoldable pub compute-gaps : ℕ → ℕ → List Range → List Range
+compute-gaps len cursor [] = gap cursor len
+compute-gaps len cursor (p ∷ ps) = gap cursor (p .0) ++ compute-gaps len (max cursor (p .1)) ps
+
+-- the state behind the layout, its rows by offset, its gaps
+pub record Layout : Type 0 where
+  pub state : State
+  pub blocks : List Row
+  pub gaps : List Range
+
+unfoldable pub layout-of : List ℕ → State → Layout
+layout-of r s = record { state = s; blocks = sort (s .rows); gaps = compute-gaps (length r) 0 (map extent (sort (s .rows))) }
+
+-- of the limits of the walk and the whole gap rows lent
+unfoldable pub layout : Limits → ℕ → List ℕ → Out Layout
+layout lim lent r =
+    and-then (reason (walk r (start lim))) (λ p.
+    and-then (check (leb (length (layout-of r (p .1) .gaps)) lent) (refusal 13 0 lent (length (layout-of r (p .1) .gaps)))) (λ u.
+    ok (layout-of r (p .1))))

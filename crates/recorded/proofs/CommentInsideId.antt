@@ -1,0 +1,112 @@
+-- comment_inside_id.mf4, as the Rust answers it.
+use mathlib.Core.Path.{_≡_, refl}
+use mathlib.Core.List.{List, [], _∷_, _++_}
+use Prim.Native.Nat.{ℕ}
+use lib.ListN.{replicate}
+use Rattle.fmt.specs.Text.{ascii}
+use Rattle.mdf4.specs.Act.{ok, err, refusal}
+use Rattle.mdf4.specs.Answers.{Lent, Counts, Exit, layout-exit, to-text-exit, to-tree-exit, clear-list-exit}
+use Rattle.mdf4.proofs.Computed.{computed}
+
+abbrev lent : ℕ → ℕ → ℕ → ℕ → ℕ → ℕ → Lent
+lent v b l g s o = record { visited = v; blocks = b; links = l; gaps = g; scratch = s; out = o }
+
+abbrev counts : ℕ → ℕ → ℕ → ℕ → ℕ → Counts
+counts v b l g o = record { visited = v; blocks = b; links = l; gaps = g; bytes = o }
+
+recording : List ℕ
+recording =
+    ascii "MDF     4.10    " ++ replicate 12 0 ++ (154 ∷ 1 ∷ []) ++ replicate 34 0 ++ ascii "##HD" ++ replicate 4 0 ++ (104 ∷ [])
+    ++ replicate 7 0 ++ (6 ∷ []) ++ replicate 47 0 ++ (8 ∷ []) ++ replicate 39 0
+
+visited : List ℕ
+visited =
+    0 ∷ 64 ∷ 8 ∷ []
+
+links : List ℕ
+links =
+    0 ∷ 0 ∷ 0 ∷ 0 ∷ 0 ∷ 0 ∷ 0 ∷ 0 ∷ 0 ∷ 0 ∷ 8 ∷ 808529461 ∷ []
+
+gaps : List ℕ
+gaps =
+    []
+
+blocks : List ℕ
+blocks =
+    0 ∷ 64 ∷ 64 ∷ 1145643811 ∷ 1 ∷ 0 ∷ 0 ∷ 0 ∷ 0 ∷ 0 ∷ 0 ∷ 0 ∷ 8 ∷ 8 ∷ 0 ∷ 808529460 ∷ 12 ∷ 0 ∷ 0 ∷ 0 ∷ 0 ∷ 0 ∷ 0 ∷ 0 ∷ 64 ∷ 168 ∷ 104
+    ∷ 1145578275 ∷ 2 ∷ 0 ∷ 0 ∷ 6 ∷ 0 ∷ 0 ∷ 0 ∷ 0 ∷ []
+
+layout : layout-exit (lent 3 36 12 0 0 0) recording
+    ≡ record {
+      answer = ok (counts 3 3 6 0 0);
+      visited = visited;
+      blocks = blocks;
+      links = links;
+      gaps = gaps;
+      scratch = replicate 0 0;
+      out =
+          [];
+    }
+unfolding computed recording visited links gaps blocks
+layout = refl
+
+text : to-text-exit (lent 3 36 12 0 0 1092) recording
+    ≡ record {
+      answer = ok (counts 3 3 6 0 1092);
+      visited = visited;
+      blocks = blocks;
+      links = links;
+      gaps = gaps;
+      scratch = replicate 0 0;
+      out =
+          ascii "MDF block layout (file size: 168 bytes / 0xa8)\n" ++ (10 ∷ []) ++ ascii "Blocks (3 total), sorted by offset:\n"
+          ++ ascii "offset        end                 size  type    description\n"
+          ++ ascii "------------  ------------  ----------  ------  ------------------------------------------------------------\n"
+          ++ ascii "0x0000000000  0x0000000040          64  ##ID    Identification: version='4.10', program='" ++ replicate 8 0 ++ ascii "'\n"
+          ++ ascii "                                            version_number=410, standard_unfinalized_flags=0x0000, custom_unfinalized_flags=0x0000\n"
+          ++ ascii "0x0000000008  0x0000000008           0  4.10    Unknown block (not walked further)\n"
+          ++ ascii "0x0000000040  0x00000000a8         104  ##HD    Header Block (abs_time=0 ns, tz=0 min)\n"
+          ++ ascii "                                            flags=0x00, time_flags=0x00, time_quality=0x00\n" ++ (10 ∷ [])
+          ++ ascii "Block links:\n" ++ ascii "  ##HD @ 0x0000000040 (Header Block (abs_time=0 ns, tz=0 min))\n"
+          ++ ascii "    first_dg_addr                -> (null)\n" ++ ascii "    file_history_addr            -> (null)\n"
+          ++ ascii "    channel_tree_addr            -> (null)\n" ++ ascii "    first_attachment_addr        -> (null)\n"
+          ++ ascii "    first_event_addr             -> (null)\n" ++ ascii "    comment_addr                 -> 0x0000000008 (4.10)\n";
+    }
+unfolding computed recording visited links gaps blocks
+text = refl
+
+clear : clear-list-exit (lent 3 36 12 0 8 24) recording
+    ≡ record {
+      answer = ok (counts 3 3 6 0 24);
+      visited = visited;
+      blocks = blocks;
+      links = links;
+      gaps = gaps;
+      scratch = replicate 8 0;
+      out =
+          67 ∷ 76 ∷ 82 ∷ 1 ∷ 0 ∷ 0 ∷ 0 ∷ 0 ∷ 168 ∷ 0 ∷ 0 ∷ 0 ∷ 0 ∷ 0 ∷ 0 ∷ 0 ∷ 0 ∷ 0 ∷ 0 ∷ 0 ∷ 0 ∷ 0 ∷ 0 ∷ 0 ∷ [];
+    }
+unfolding computed recording visited links gaps blocks
+clear = refl
+
+marked-blocks : List ℕ
+marked-blocks =
+    0 ∷ 64 ∷ 64 ∷ 1145643811 ∷ 1 ∷ 0 ∷ 0 ∷ 0 ∷ 0 ∷ 0 ∷ 0 ∷ 1 ∷ 8 ∷ 8 ∷ 0 ∷ 808529460 ∷ 12 ∷ 0 ∷ 0 ∷ 0 ∷ 0 ∷ 0 ∷ 0 ∷ 1 ∷ 64 ∷ 168 ∷ 104
+    ∷ 1145578275 ∷ 2 ∷ 0 ∷ 0 ∷ 6 ∷ 0 ∷ 0 ∷ 0 ∷ 1 ∷ []
+
+tree : to-tree-exit (lent 3 36 12 0 0 284) recording
+    ≡ record {
+      answer = ok (counts 3 3 6 0 284);
+      visited = visited;
+      blocks = marked-blocks;
+      links = links;
+      gaps = gaps;
+      scratch = replicate 0 0;
+      out =
+          ascii "##ID @ 0x0000000000 [Identification: version='4.10', program='" ++ replicate 8 0 ++ ascii "']\n"
+          ++ ascii "4.10 @ 0x0000000008 [Unknown block (not walked further)]\n"
+          ++ ascii "##HD @ 0x0000000040 [Header Block (abs_time=0 ns, tz=0 min)]\n"
+          ++ ascii "`-- (comment_addr) 4.10 @ 0x0000000008 [Unknown block (not walked further)] (already listed)\n";
+    }
+unfolding computed recording visited links gaps marked-blocks
+tree = refl

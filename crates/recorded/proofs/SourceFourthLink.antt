@@ -1,0 +1,131 @@
+-- source_fourth_link.mf4, as the Rust answers it.
+use mathlib.Core.Path.{_≡_, refl}
+use mathlib.Core.List.{List, [], _∷_, _++_}
+use Prim.Native.Nat.{ℕ}
+use lib.ListN.{replicate}
+use Rattle.fmt.specs.Text.{ascii}
+use Rattle.mdf4.specs.Act.{ok, err, refusal}
+use Rattle.mdf4.specs.Answers.{Lent, Counts, Exit, layout-exit, to-text-exit, to-tree-exit, clear-list-exit}
+use Rattle.mdf4.proofs.Computed.{computed}
+
+abbrev lent : ℕ → ℕ → ℕ → ℕ → ℕ → ℕ → Lent
+lent v b l g s o = record { visited = v; blocks = b; links = l; gaps = g; scratch = s; out = o }
+
+abbrev counts : ℕ → ℕ → ℕ → ℕ → ℕ → Counts
+counts v b l g o = record { visited = v; blocks = b; links = l; gaps = g; bytes = o }
+
+recording : List ℕ
+recording =
+    ascii "MDF     4.10    console1" ++ replicate 4 0 ++ (154 ∷ 1 ∷ []) ++ replicate 34 0 ++ ascii "##HD" ++ replicate 4 0 ++ (104 ∷ [])
+    ++ replicate 7 0 ++ (6 ∷ []) ++ replicate 7 0 ++ (168 ∷ []) ++ replicate 79 0 ++ ascii "##DG" ++ replicate 4 0 ++ (64 ∷ [])
+    ++ replicate 7 0 ++ (4 ∷ []) ++ replicate 15 0 ++ (232 ∷ []) ++ replicate 31 0 ++ ascii "##CG" ++ replicate 4 0 ++ (104 ∷ [])
+    ++ replicate 7 0 ++ (6 ∷ []) ++ replicate 31 0 ++ (80 ∷ 1 ∷ []) ++ replicate 54 0 ++ ascii "##SI" ++ replicate 4 0 ++ (64 ∷ [])
+    ++ replicate 7 0 ++ (4 ∷ []) ++ replicate 31 0 ++ (255 ∷ 255 ∷ 255 ∷ 255 ∷ 255 ∷ 255 ∷ 255 ∷ 255 ∷ []) ++ replicate 8 0
+
+visited : List ℕ
+visited =
+    0 ∷ 64 ∷ 168 ∷ 232 ∷ 336 ∷ []
+
+links : List ℕ
+links =
+    168 ∷ 1195647780 ∷ 0 ∷ 0 ∷ 0 ∷ 0 ∷ 0 ∷ 0 ∷ 0 ∷ 0 ∷ 0 ∷ 0 ∷ 0 ∷ 0 ∷ 232 ∷ 1195582244 ∷ 0 ∷ 0 ∷ 0 ∷ 0 ∷ 0 ∷ 0 ∷ 0 ∷ 0 ∷ 0 ∷ 0 ∷ 336
+    ∷ 1230185252 ∷ 0 ∷ 0 ∷ 0 ∷ 0 ∷ 0 ∷ 0 ∷ 0 ∷ 0 ∷ 0 ∷ 0 ∷ []
+
+gaps : List ℕ
+gaps =
+    []
+
+blocks : List ℕ
+blocks =
+    0 ∷ 64 ∷ 64 ∷ 1145643811 ∷ 1 ∷ 0 ∷ 0 ∷ 0 ∷ 0 ∷ 0 ∷ 0 ∷ 0 ∷ 64 ∷ 168 ∷ 104 ∷ 1145578275 ∷ 2 ∷ 0 ∷ 0 ∷ 6 ∷ 0 ∷ 0 ∷ 0 ∷ 0 ∷ 168 ∷ 232 ∷ 64
+    ∷ 1195647779 ∷ 3 ∷ 0 ∷ 6 ∷ 4 ∷ 0 ∷ 0 ∷ 0 ∷ 0 ∷ 232 ∷ 336 ∷ 104 ∷ 1195582243 ∷ 4 ∷ 0 ∷ 10 ∷ 6 ∷ 0 ∷ 0 ∷ 0 ∷ 0 ∷ 336 ∷ 400 ∷ 64
+    ∷ 1230185251 ∷ 6 ∷ 0 ∷ 16 ∷ 3 ∷ 0 ∷ 0 ∷ 0 ∷ 0 ∷ []
+
+layout : layout-exit (lent 5 60 38 0 0 0) recording
+    ≡ record {
+      answer = ok (counts 5 5 19 0 0);
+      visited = visited;
+      blocks = blocks;
+      links = links;
+      gaps = gaps;
+      scratch = replicate 0 0;
+      out =
+          [];
+    }
+unfolding computed recording visited links gaps blocks
+layout = refl
+
+text : to-text-exit (lent 5 60 38 0 0 2175) recording
+    ≡ record {
+      answer = ok (counts 5 5 19 0 2175);
+      visited = visited;
+      blocks = blocks;
+      links = links;
+      gaps = gaps;
+      scratch = replicate 0 0;
+      out =
+          ascii "MDF block layout (file size: 400 bytes / 0x190)\n" ++ (10 ∷ []) ++ ascii "Blocks (5 total), sorted by offset:\n"
+          ++ ascii "offset        end                 size  type    description\n"
+          ++ ascii "------------  ------------  ----------  ------  ------------------------------------------------------------\n"
+          ++ ascii "0x0000000000  0x0000000040          64  ##ID    Identification: version='4.10', program='console1'\n"
+          ++ ascii "                                            version_number=410, standard_unfinalized_flags=0x0000, custom_unfinalized_flags=0x0000\n"
+          ++ ascii "0x0000000040  0x00000000a8         104  ##HD    Header Block (abs_time=0 ns, tz=0 min)\n"
+          ++ ascii "                                            flags=0x00, time_flags=0x00, time_quality=0x00\n"
+          ++ ascii "0x00000000a8  0x00000000e8          64  ##DG    Data Group #0 (record_id_len=0)\n"
+          ++ ascii "0x00000000e8  0x0000000150         104  ##CG    Channel Group #0 (cycles=0, record=0B = 0B data + 0B inval + 0B record_id)\n"
+          ++ ascii "                                            flags=0x0000, record_id=0\n"
+          ++ ascii "0x0000000150  0x0000000190          64  ##SI    Source (type=0, bus_type=0, flags=0x00)\n" ++ (10 ∷ [])
+          ++ ascii "Block links:\n" ++ ascii "  ##HD @ 0x0000000040 (Header Block (abs_time=0 ns, tz=0 min))\n"
+          ++ ascii "    first_dg_addr                -> 0x00000000a8 (##DG)\n" ++ ascii "    file_history_addr            -> (null)\n"
+          ++ ascii "    channel_tree_addr            -> (null)\n" ++ ascii "    first_attachment_addr        -> (null)\n"
+          ++ ascii "    first_event_addr             -> (null)\n" ++ ascii "    comment_addr                 -> (null)\n"
+          ++ ascii "  ##DG @ 0x00000000a8 (Data Group #0 (record_id_len=0))\n" ++ ascii "    next_dg_addr                 -> (null)\n"
+          ++ ascii "    first_cg_addr                -> 0x00000000e8 (##CG)\n" ++ ascii "    data_block_addr              -> (null)\n"
+          ++ ascii "    comment_addr                 -> (null)\n"
+          ++ ascii "  ##CG @ 0x00000000e8 (Channel Group #0 (cycles=0, record=0B = 0B data + 0B inval + 0B record_id))\n"
+          ++ ascii "    next_cg_addr                 -> (null)\n" ++ ascii "    first_ch_addr                -> (null)\n"
+          ++ ascii "    acq_name_addr                -> (null)\n" ++ ascii "    acq_source_addr              -> 0x0000000150 (##SI)\n"
+          ++ ascii "    first_sample_reduction_addr  -> (null)\n" ++ ascii "    comment_addr                 -> (null)\n"
+          ++ ascii "  ##SI @ 0x0000000150 (Source (type=0, bus_type=0, flags=0x00))\n" ++ ascii "    name_addr                    -> (null)\n"
+          ++ ascii "    path_addr                    -> (null)\n" ++ ascii "    comment_addr                 -> (null)\n";
+    }
+unfolding computed recording visited links gaps blocks
+text = refl
+
+clear : clear-list-exit (lent 5 60 38 0 16 24) recording
+    ≡ record {
+      answer = ok (counts 5 5 19 0 24);
+      visited = visited;
+      blocks = blocks;
+      links = links;
+      gaps = gaps;
+      scratch = replicate 16 0;
+      out =
+          67 ∷ 76 ∷ 82 ∷ 1 ∷ 0 ∷ 0 ∷ 0 ∷ 0 ∷ 144 ∷ 1 ∷ 0 ∷ 0 ∷ 0 ∷ 0 ∷ 0 ∷ 0 ∷ 0 ∷ 0 ∷ 0 ∷ 0 ∷ 0 ∷ 0 ∷ 0 ∷ 0 ∷ [];
+    }
+unfolding computed recording visited links gaps blocks
+clear = refl
+
+marked-blocks : List ℕ
+marked-blocks =
+    0 ∷ 64 ∷ 64 ∷ 1145643811 ∷ 1 ∷ 0 ∷ 0 ∷ 0 ∷ 0 ∷ 0 ∷ 0 ∷ 1 ∷ 64 ∷ 168 ∷ 104 ∷ 1145578275 ∷ 2 ∷ 0 ∷ 0 ∷ 6 ∷ 0 ∷ 0 ∷ 0 ∷ 1 ∷ 168 ∷ 232 ∷ 64
+    ∷ 1195647779 ∷ 3 ∷ 0 ∷ 6 ∷ 4 ∷ 0 ∷ 0 ∷ 0 ∷ 1 ∷ 232 ∷ 336 ∷ 104 ∷ 1195582243 ∷ 4 ∷ 0 ∷ 10 ∷ 6 ∷ 0 ∷ 0 ∷ 0 ∷ 1 ∷ 336 ∷ 400 ∷ 64
+    ∷ 1230185251 ∷ 6 ∷ 0 ∷ 16 ∷ 3 ∷ 0 ∷ 0 ∷ 0 ∷ 1 ∷ []
+
+tree : to-tree-exit (lent 5 60 38 0 0 421) recording
+    ≡ record {
+      answer = ok (counts 5 5 19 0 421);
+      visited = visited;
+      blocks = marked-blocks;
+      links = links;
+      gaps = gaps;
+      scratch = replicate 0 0;
+      out =
+          ascii "##ID @ 0x0000000000 [Identification: version='4.10', program='console1']\n"
+          ++ ascii "##HD @ 0x0000000040 [Header Block (abs_time=0 ns, tz=0 min)]\n"
+          ++ ascii "`-- (first_dg_addr) ##DG @ 0x00000000a8 [Data Group #0 (record_id_len=0)]\n"
+          ++ ascii "    `-- (first_cg_addr) ##CG @ 0x00000000e8 [Channel Group #0 (cycles=0, record=0B = 0B data + 0B inval + 0B record_id)]\n"
+          ++ ascii "        `-- (acq_source_addr) ##SI @ 0x0000000150 [Source (type=0, bus_type=0, flags=0x00)]\n";
+    }
+unfolding computed recording visited links gaps marked-blocks
+tree = refl
