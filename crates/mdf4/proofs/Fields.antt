@@ -2,12 +2,12 @@
 use mathlib.Core.Path.{_≡_, refl, ap}
 use mathlib.Core.List.{List, [], _∷_, _++_}
 use mathlib.Core.Bool.{cond}
-use Prim.Native.Nat.{ℕ, zero, suc, _+_, _*_, _≤_, _<_, _^_, _%_, min}
+use Prim.Native.Nat.{ℕ, zero, suc, _+_, _-_, _*_, _≤_, _<_, _^_, _%_, min}
 use native.Mathlib.Omega.{arith}
-use native.Mathlib.Nat.{pow-suc}
+use native.Mathlib.Nat.{pow-zero, pow-suc, pow-succ', one-mul, mul-assoc}
 use lib.Dec.{eqb}
 use lib.ListN.{length, take, drop, getD, length-take, length-drop}
-use lib.Seq.{drop-cons, ext-getD, getD-take, getD-drop}
+use lib.Seq.{slice, drop-cons, ext-getD, getD-take, getD-drop}
 use Rattle.mdf4.specs.Bytes.{bytes, little, num, words}
 use Rattle.mdf4.specs.Act.{Kind, ID, HD, DG, CG, CN, SI, TX, MD, DT, SD, DL, UT, UD}
 use Rattle.mdf4.specs.Kinds.{read-len, rest, is, links-nr, block-len, shape, data-at}
@@ -22,6 +22,18 @@ pub num-suc : (b : List ℕ) (a w : ℕ) → a < length b → num b a (suc w) �
 unfolding num bytes little
 num-suc b a w h = rw (drop-cons b a 0 h)
 
+-- a field in two parts
+pub num-add : (b : List ℕ) (a v w : ℕ) → a + v ≤ length b → num b a (v + w) ≡ num b a v + 256 ^ v * num b (a + v) w
+num-add b a zero w h =
+    let e : 0 + w ≡ w = omega arith in
+    let z : a + 0 ≡ a = omega arith in
+    rw (e, z, num-zero, pow-zero, one-mul) (omega arith)
+num-add b a (suc v) w h =
+    let ih : num b (suc a) (v + w) ≡ num b (suc a) v + 256 ^ v * num b (suc a + v) w = num-add b (suc a) v w (omega arith) in
+    let e : suc a + v ≡ a + suc v = omega arith in
+    let s : suc v + w ≡ suc (v + w) = omega arith in
+    rw (s, num-suc b a (v + w) (omega arith), num-suc b a v (omega arith), ih, e, pow-succ') (omega (arith, mul-assoc 256 (256 ^ v) (num b (a + suc v) w)))
+
 -- a field of a block's own bytes is a field of the recording
 pub bytes-bytes : (r : List ℕ) (a n i w : ℕ) → i + w ≤ n → bytes (bytes r a n) i w ≡ bytes r (a + i) w
 unfolding bytes
@@ -33,6 +45,21 @@ bytes-bytes r a n i w h = ext-getD 0 _ _ (simp (length-take, length-drop) (omega
         let u : j < w = omega arith in
         rw (getD-take w (drop i (take n (drop a r))) j 0 u, getD-drop i, getD-take n (drop a r) (i + j) 0 (omega arith), getD-drop a, getD-take w (drop (a + i) r) j 0 u, getD-drop (a + i))
         (ap (λ (m : ℕ). getD r m 0) (omega arith))
+
+-- a part of the recording, as a borrowed part of a slice and as `slice` has it
+pub part-bytes : (r : List ℕ) (a n : ℕ) → take (a + n - a) (drop a r) ≡ bytes r a n
+unfolding bytes
+part-bytes r a n = let e : a + n - a ≡ n = omega arith in rw e
+
+pub slice-bytes : (r : List ℕ) (a n : ℕ) → slice a (a + n) r ≡ bytes r a n
+unfolding bytes
+slice-bytes r a n = ext-getD 0 _ _ (simp (length-take, length-drop) (omega arith)) at
+  where
+    at : (j : ℕ) → j < length (drop a (take (a + n) r)) → getD (drop a (take (a + n) r)) j 0 ≡ getD (take n (drop a r)) j 0
+    at j l =
+        let g : j < length (take (a + n) r) - a = rw length-drop at l in
+        let u : j < min (a + n) (length r) - a = rw length-take at g in
+        rw (getD-drop a, getD-take (a + n) r (a + j) 0 (omega arith), getD-take n (drop a r) j 0 (omega arith), getD-drop a)
 
 pub num-bytes : (r : List ℕ) (a n i w : ℕ) → i + w ≤ n → num (bytes r a n) i w ≡ num r (a + i) w
 unfolding num

@@ -1,21 +1,24 @@
 -- NULs come off before or after decoding, with one result: a NUL byte is always a character by itself (`nuls-first`).
-use mathlib.Core.Path.{_≡_, refl, sym, ap, _∙_}
-use mathlib.Core.Bool.{Bool, true, false, cond, _&&_}
-use mathlib.Core.List.{List, [], _∷_, _++_, append-assoc, append-nil}
-use Prim.Native.Nat.{ℕ, zero, suc, pred, _+_, _-_, _≤_, _<_}
+use mathlib.Core.Path.{_≡_, refl, ap, _∙_}
+use mathlib.Core.Bool.{Bool, true, false, cond}
+use mathlib.Core.List.{List, [], _∷_, _++_, append-nil}
+use Prim.Native.Nat.{ℕ, zero, suc, pred, _≤_, _<_}
 use native.Mathlib.Omega.{arith}
-use lib.Dec.{ltb, leb, eqb}
-use lib.ListN.{length, take, length-append}
+use lib.Dec.{ltb, leb}
+use lib.ListN.{length, take}
 use native.Mathlib.Decide.{decLt}
-use lib.Seq.{take-append-le}
-use borrow.Author.Tests.{eqb-true, eqb-false, ne-eqb, eq-eqb, lt-leb}
+use lib.Seq.{take-append-le, take-all}
+use borrow.Author.Tests.{eqb-true}
 use Rattle.utf8.specs.declared.Lead.{Lead}
 use Rattle.utf8.specs.declared.Lead.the-variants.{Ascii, Never, Second}
 use Rattle.utf8.specs.declared.Step.{Step}
 use Rattle.utf8.specs.declared.Step.the-variants.{Char, Junk}
-use Rattle.utf8.specs.Utf8.{between, lead-of, trailing, ended, after-lead, step-of, width-of, Chunk, char, chunk-of, chunks-after, chunks, shown, shown-all, lossy}
+use Rattle.utf8.specs.Utf8.{lead-of, trailing, after-lead, step-of, width-of, Chunk, char, chunk-of, chunks-after, chunks, shown, shown-all, lossy}
 use Rattle.utf8.specs.White.{keep, drop-end}
 use Rattle.utf8.specs.Nul.{is-nul, trim-end-nuls, trim-start-nuls, trim-nuls}
+use Rattle.utf8.proofs.Steps.{after-width}
+use Rattle.utf8.proofs.Chunks.{shown-append}
+use Rattle.utf8.proofs.Trimming.{drop-end-pass}
 
 -- a second byte is never 0
 abbrev Above0 : Lead → Type 0
@@ -57,31 +60,6 @@ step-snoc : (b : ℕ) (s : List ℕ) → step-of (b ∷ (s ++ 0 ∷ [])) ≡ ste
 unfolding step-of
 step-snoc b s = after-snoc (lead-of b) (lead-above b) s
 
--- a step has at least one byte, and all of them are there
-trailing-fits : (more : ℕ) (s : List ℕ) → trailing more s ≤ length s
-unfolding trailing
-trailing-fits zero s = omega arith
-trailing-fits (suc more) [] = omega arith
-trailing-fits (suc more) (b ∷ s) = go (between 0x80 0xbf b) (trailing-fits more s)
-  where
-    go : (t : Bool) → trailing more s ≤ length s → cond t (suc (trailing more s)) 0 ≤ length (b ∷ s)
-    go true h = omega arith
-    go false h = omega arith
-
-after-fits : (l : Lead) (s : List ℕ) → (1 ≤ width-of (after-lead l s)) × (width-of (after-lead l s) ≤ suc (length s))
-unfolding after-lead ended
-after-fits Ascii s = (omega arith, omega arith)
-after-fits Never s = (omega arith, omega arith)
-after-fits (Second lo hi more) [] = (omega arith, omega arith)
-after-fits (Second lo hi more) (b ∷ s) = go (between lo hi b) (eqb (trailing more s) more) (trailing-fits more s)
-  where
-    go : (t u : Bool) → trailing more s ≤ length s
-        → (1 ≤ width-of (cond t (cond u (Char (2 + trailing more s)) (Junk (2 + trailing more s))) (Junk 1)))
-        × (width-of (cond t (cond u (Char (2 + trailing more s)) (Junk (2 + trailing more s))) (Junk 1)) ≤ suc (length (b ∷ s)))
-    go true true h = (omega arith, omega arith)
-    go true false h = (omega arith, omega arith)
-    go false u h = (omega arith, omega arith)
-
 chunk-snoc : (x : Step) (s : List ℕ) → width-of x ≤ length s → chunk-of x (s ++ 0 ∷ []) ≡ chunk-of x s
 unfolding chunk-of
 chunk-snoc (Char n) s h = rw (take-append-le n s (0 ∷ []) h)
@@ -91,7 +69,7 @@ chunk-snoc (Junk n) s h = rw (take-append-le n s (0 ∷ []) h)
 -- (by the step at the front)
 front-snoc : (b : ℕ) (s : List ℕ) → chunks-after 0 (b ∷ (s ++ 0 ∷ [])) ≡ chunk-of (step-of (b ∷ s)) (b ∷ s) ∷ chunks-after (pred (width-of (step-of (b ∷ s)))) (s ++ 0 ∷ [])
 unfolding chunks-after
-front-snoc b s = rw (step-snoc b s, chunk-snoc (step-of (b ∷ s)) (b ∷ s) (unfold step-of in (omega (arith, after-fits (lead-of b) s .1))))
+front-snoc b s = rw (step-snoc b s, chunk-snoc (step-of (b ∷ s)) (b ∷ s) (unfold step-of in (omega (arith, after-width (lead-of b) s .1))))
 
 chunks-snoc : (skip : ℕ) (s : List ℕ) → skip ≤ length s → chunks-after skip (s ++ 0 ∷ []) ≡ chunks-after skip s ++ char (0 ∷ []) ∷ []
 unfolding chunks-after step-of chunk-of lead-of after-lead
@@ -99,12 +77,7 @@ chunks-snoc zero [] h = refl
 chunks-snoc (suc skip) [] h = absurd (omega arith)
 chunks-snoc (suc skip) (b ∷ s) h = chunks-snoc skip s (omega arith)
 chunks-snoc zero (b ∷ s) h =
-    front-snoc b s ∙ ap (λ (l : List Chunk). chunk-of (step-of (b ∷ s)) (b ∷ s) ∷ l) (chunks-snoc (pred (width-of (step-of (b ∷ s)))) s (omega (arith, after-fits (lead-of b) s .0, after-fits (lead-of b) s .1)))
-
-shown-append : (xs ys : List Chunk) → shown-all (xs ++ ys) ≡ shown-all xs ++ shown-all ys
-unfolding shown-all
-shown-append [] ys = refl
-shown-append (x ∷ xs) ys = rw (shown-append xs ys) (sym (append-assoc (shown x) (shown-all xs) (shown-all ys)))
+    front-snoc b s ∙ ap (λ (l : List Chunk). chunk-of (step-of (b ∷ s)) (b ∷ s) ∷ l) (chunks-snoc (pred (width-of (step-of (b ∷ s)))) s (omega (arith, after-width (lead-of b) s .0, after-width (lead-of b) s .1)))
 
 pub lossy-snoc : (s : List ℕ) → lossy (s ++ 0 ∷ []) ≡ lossy s ++ 0 ∷ []
 unfolding lossy chunks shown shown-all
@@ -127,14 +100,10 @@ pad-nul : (k : ℕ) → 0 ∷ pad [] k ≡ pad [] (suc k)
 pad-nul zero = refl
 pad-nul (suc k) = ap (λ (l : List ℕ). l ++ 0 ∷ []) (pad-nul k)
 
-trim-snoc : (s : List ℕ) → trim-end-nuls (s ++ 0 ∷ []) ≡ trim-end-nuls s
-unfolding trim-end-nuls drop-end keep is-nul
-trim-snoc [] = refl
-trim-snoc (x ∷ s) = let e : drop-end is-nul (s ++ 0 ∷ []) ≡ drop-end is-nul s = trim-snoc s in rw e
-
 trim-pad : (s : List ℕ) (k : ℕ) → trim-end-nuls (pad s k) ≡ trim-end-nuls s
+unfolding trim-end-nuls is-nul
 trim-pad s zero = refl
-trim-pad s (suc k) = trim-snoc (pad s k) ∙ trim-pad s k
+trim-pad s (suc k) = drop-end-pass is-nul (pad s k) 0 refl ∙ trim-pad s k
 
 pub split : (s : List ℕ) → (k : ℕ) × (s ≡ pad (trim-end-nuls s) k)
 unfolding trim-end-nuls drop-end keep is-nul
@@ -194,18 +163,9 @@ some-behind : (skip : ℕ) (s : List ℕ) → skip < length s → (c : ℕ) × (
 unfolding chunks-after shown-all step-of
 some-behind skip [] h = absurd (omega arith)
 some-behind zero (b ∷ s) h =
-    let f = front (after-lead (lead-of b) s) b s (after-fits (lead-of b) s .0) in
+    let f = front (after-lead (lead-of b) s) b s (after-width (lead-of b) s .0) in
     (f .0, f .1 ++ shown-all (chunks-after (pred (width-of (after-lead (lead-of b) s))) s), rw (f .2))
 some-behind (suc skip) (b ∷ s) h = some-behind skip s (omega arith)
-
-take-all : (n : ℕ) (s : List ℕ) → length s ≤ n → take n s ≡ s
-take-all n [] h = take-nil n
-  where
-    take-nil : (n : ℕ) → take {A = ℕ} n [] ≡ []
-    take-nil zero = refl
-    take-nil (suc n) = refl
-take-all zero (b ∷ s) h = absurd (omega arith)
-take-all (suc n) (b ∷ s) h = rw (take-all n s (omega arith))
 
 whole-end : (x : Step) (s : List ℕ) → length s ≤ width-of x → ends-in-nul s ≡ false → ends-in-nul (shown (chunk-of x s)) ≡ false
 unfolding chunk-of shown is-nul
@@ -217,7 +177,7 @@ unfolding chunks-after shown-all step-of
 end-lossy skip [] h = refl
 end-lossy (suc skip) (b ∷ s) h = end-lossy skip s (end-tail b s h)
 end-lossy zero (b ∷ s) h =
-    let f = after-fits (lead-of b) s in
+    let f = after-width (lead-of b) s in
     let ih = end-lossy (pred (width-of (after-lead (lead-of b) s))) s (end-tail b s h) in
     elim (decLt (pred (width-of (after-lead (lead-of b) s))) (length s)) [
       | yes l ↦
@@ -242,7 +202,7 @@ nul-front s = refl
 other-front : (b : ℕ) (s : List ℕ) → is-nul b ≡ false → trim-start-nuls (lossy (b ∷ s)) ≡ lossy (b ∷ s)
 unfolding lossy chunks chunks-after step-of shown-all trim-start-nuls
 other-front b s e =
-    let f = front (after-lead (lead-of b) s) b s (after-fits (lead-of b) s .0) in
+    let f = front (after-lead (lead-of b) s) b s (after-width (lead-of b) s .0) in
     rw (f .2, f .3 e)
 
 pub drop-lossy : (s : List ℕ) → trim-start-nuls (lossy s) ≡ lossy (trim-start-nuls s)
