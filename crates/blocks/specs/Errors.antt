@@ -1,6 +1,7 @@
 -- Document 01's number, place, a and b of each refusal.
 use Prim.Native.Nat.{ℕ}
 use Rattle.mdf4.specs.Act.{Refusal, refusal}
+use Rattle.blocks.specs.declared.error.Refusal as declared
 use Rattle.blocks.specs.declared.error.MdfError.{MdfError}
 use Rattle.blocks.specs.declared.error.MdfError.the-variants.{TooShortBuffer, FileIdentifierError, InvalidVersionString, FileVersioningError, BlockIDError, BlockSerializationError, SumOverflow, ShortName, Conversion, VisitedFull, BlocksFull, LinksFull, TableTooShort, OutputTooShort, TooDeep}
 
@@ -20,3 +21,7 @@ numbers (LinksFull place lent) = refusal 12 place lent 0
 numbers (TableTooShort lent needed) = refusal 13 0 lent needed
 numbers (OutputTooShort lent needed) = refusal 14 0 lent needed
 numbers (TooDeep place limit) = refusal 15 place limit 0
+
+-- the four numbers as the code has them
+abbrev pub refusal-of : declared.Refusal → Refusal
+refusal-of r = refusal (r .number) (r .place) (r .a) (r .b)

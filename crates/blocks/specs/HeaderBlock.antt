@@ -1,6 +1,7 @@
 -- A header's fields.
 use mathlib.Core.List.{List}
 use Prim.Native.Nat.{ℕ}
+use Rattle.fmt.specs.Digits.{i16-of}
 use Rattle.mdf4.specs.Bytes.{num}
 use Rattle.mdf4.specs.Act.{Out, ok, err}
 use Rattle.blocks.specs.Errors.{numbers}
@@ -21,7 +22,7 @@ header-block-of o = record {
   «first_event_addr» = num o 56 8;
   «comment_addr» = num o 64 8;
   «abs_time» = num o 72 8;
-  «tz_offset» = num o 80 2;
+  «tz_offset» = i16-of (num o 80 2);
   «time_flags» = num o 84 1;
   «time_quality» = num o 85 1;
   flags = num o 86 1;

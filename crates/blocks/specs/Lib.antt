@@ -4,3 +4,12 @@ pub mod Headers
 pub mod Parse
 pub mod HeaderBlock
 pub mod DataGroupBlock
+pub mod Extents
+pub mod ChannelGroupBlock
+pub mod ChannelBlock
+pub mod SourceBlock
+pub mod DataListBlock
+pub mod TextBlock
+pub mod MetadataBlock
+pub mod Name
+pub mod IdentificationBlock

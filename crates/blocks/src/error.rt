@@ -1,5 +1,8 @@
 // What refuses a call: the Rust's variants where it has them, and ours for its panics, for conversions and for limits. The
 // definition `numbers` of specs/Errors.antt gives document 01's number, place, a and b of each.
+ghost use mathlib.Core.Path.{_≡_};
+ghost use Rattle.mdf4.specs.Act as spec;
+ghost use Rattle.blocks.specs.Errors.{numbers, refusal-of};
 
 pub enum MdfError {
     TooShortBuffer {
@@ -64,4 +67,59 @@ pub enum MdfError {
         place: u64,
         limit: u64,
     },
+}
+
+// Document 01's four numbers of a refusal.
+pub struct Refusal {
+    pub number: u64,
+    pub place: u64,
+    pub a: u64,
+    pub b: u64,
+}
+
+fn four(number: u64, place: u64, a: u64, b: u64) -> Refusal
+    ensures { λ r. ⌜ refusal-of r ≡ spec.refusal number place a b ⌝ }
+{
+    Refusal {
+        number,
+        place,
+        a,
+        b,
+    }
+}
+
+impl MdfError {
+    pub fn numbers(self) -> Refusal
+        ensures { λ r. ⌜ refusal-of r ≡ numbers self ⌝ }
+    {
+        match self {
+            MdfError::TooShortBuffer {
+                place,
+                expected,
+                actual,
+            } => four(1, place, expected, actual),
+            MdfError::FileIdentifierError => four(2, 0, 0, 0),
+            MdfError::InvalidVersionString { part } => four(3, 8, part, 0),
+            MdfError::FileVersioningError { number } => four(4, 8, number, 0),
+            MdfError::BlockIDError {
+                place,
+                expected,
+                actual,
+            } => four(5, place, expected, actual),
+            MdfError::BlockSerializationError {
+                place,
+                links_nr,
+                block_len,
+            } => four(6, place, links_nr, block_len),
+            MdfError::SumOverflow { place, a, b } => four(7, place, a, b),
+            MdfError::ShortName { place, block_len } => four(8, place, block_len, 24),
+            MdfError::Conversion { place, channel } => four(9, place, channel, 0),
+            MdfError::VisitedFull { place, lent } => four(10, place, lent, 0),
+            MdfError::BlocksFull { place, lent } => four(11, place, lent, 0),
+            MdfError::LinksFull { place, lent } => four(12, place, lent, 0),
+            MdfError::TableTooShort { lent, needed } => four(13, 0, lent, needed),
+            MdfError::OutputTooShort { lent, needed } => four(14, 0, lent, needed),
+            MdfError::TooDeep { place, limit } => four(15, place, limit, 0),
+        }
+    }
 }

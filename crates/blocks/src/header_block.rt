@@ -8,8 +8,8 @@ ghost use Rattle.blocks.specs.HeaderBlock.{header-block-read, header-blo
 use crate::common::BlockHeader;
 use crate::common::HeaderRead;
 use crate::error::MdfError;
+use byteorder::read_i16;
 use byteorder::read_u8;
-use byteorder::read_u16;
 use byteorder::read_u64;
 
 pub struct HeaderBlock {
@@ -20,8 +20,7 @@ pub struct HeaderBlock {
     pub first_event_addr: u64,
     pub comment_addr: u64,
     pub abs_time: u64,
-    // the i16's 16 bits
-    pub tz_offset: u16,
+    pub tz_offset: i16,
     pub time_flags: u8,
     pub time_quality: u8,
     pub flags: u8,
@@ -51,7 +50,7 @@ impl HeaderBlock {
             first_event_addr: read_u64(b, 56),
             comment_addr: read_u64(b, 64),
             abs_time: read_u64(b, 72),
-            tz_offset: read_u16(b, 80),
+            tz_offset: read_i16(b, 80),
             time_flags: read_u8(b, 84),
             time_quality: read_u8(b, 85),
             flags: read_u8(b, 86),

@@ -1,2 +1,3 @@
 -- Laws of little-endian numbers.
 pub mod Halves
+pub mod Signed

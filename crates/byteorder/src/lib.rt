@@ -2,6 +2,7 @@
 ghost use mathlib.Core.Path.{_≡_};
 ghost use Prim.Native.Nat.{_+_, _≤_};
 ghost use lib.ListN.{length};
+ghost use Rattle.fmt.specs.Digits.{i16-of};
 ghost use Rattle.mdf4.specs.Bytes.{num};
 
 fn wide16(x: u8) -> u16
@@ -48,4 +49,11 @@ pub fn read_u64(s: &[u8], at: usize) -> u64
     ensures { λ r. ⌜ r ≡ num (now (s .entry)) at 8 ⌝ }
 {
     wide64(read_u32(s, at)) + 4294967296 * wide64(read_u32(s, at + 4))
+}
+
+pub fn read_i16(s: &[u8], at: usize) -> i16
+    requires { ⌜ at + 2 ≤ length (now s) ⌝ }
+    ensures { λ r. ⌜ r ≡ i16-of (num (now (s .entry)) at 2) ⌝ }
+{
+    fmt::signed16(read_u16(s, at))
 }

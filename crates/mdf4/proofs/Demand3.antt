@@ -96,12 +96,12 @@ clear-list-again = record { same = λ n r r' c e k. let a = clear-list-accepted 
 
 -- The tables: rows written as words are read back as they were
 
-rows-in : (v : List ℕ) (ws : List Row) (z : List ℕ) → ranges-in block-row-words (length ws) (concat-map (row-words v) ws ++ z) ≡ map extent ws
+pub rows-in : (v : List ℕ) (ws : List Row) (z : List ℕ) → ranges-in block-row-words (length ws) (concat-map (row-words v) ws ++ z) ≡ map extent ws
 unfolding ranges-in concat-map row-words
 rows-in v [] z = refl
 rows-in v (w ∷ ws) z = ap (λ (ps : List Range). extent w ∷ ps) (rows-in v ws z)
 
-pairs-in : (gs : List Range) (z : List ℕ) → ranges-in pair-words (length gs) (concat-map range-words gs ++ z) ≡ gs
+pub pairs-in : (gs : List Range) (z : List ℕ) → ranges-in pair-words (length gs) (concat-map range-words gs ++ z) ≡ gs
 unfolding ranges-in concat-map range-words
 pairs-in [] z = refl
 pairs-in (g ∷ gs) z = ap (λ (ps : List Range). g ∷ ps) (pairs-in gs z)

@@ -4,7 +4,7 @@ use Rattle.blocks.proofs.header_block.HeaderBlock.fields.Statement.{sta
 use Rattle.blocks.proofs.header_block.HeaderBlock.fields.Tie as tie
 use Rattle.blocks.proofs.header_block.HeaderBlock.fields.Reads as reads
 use Rattle.blocks.proofs.header_block.HeaderBlock.fields.Lts as lts
-use Rattle.byteorder.proofs.read_u16.Reads as read-u16-reads
+use Rattle.byteorder.proofs.read_i16.Reads as read-i16-reads
 use Rattle.byteorder.proofs.read_u64.Reads as read-u64-reads
 use Rattle.byteorder.proofs.read_u8.Reads as read-u8-reads
 
@@ -37,8 +37,8 @@ read-u64-requires-7 : tie.Need-read-u64-requires-7
 read-u64-requires-7 c κs = search needs
 
 -- src/header_block.rt:54:24
-read-u16-requires : tie.Need-read-u16-requires
-read-u16-requires c κs = search needs
+read-i16-requires : tie.Need-read-i16-requires
+read-i16-requires c κs = search needs
 
 -- src/header_block.rt:55:25
 read-u8-requires : tie.Need-read-u8-requires
@@ -67,7 +67,7 @@ fields-spec =
     read-u64-requires-5
     read-u64-requires-6
     read-u64-requires-7
-    read-u16-requires
+    read-i16-requires
     read-u8-requires
     read-u8-requires-2
     read-u8-requires-3

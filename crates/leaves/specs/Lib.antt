@@ -1,0 +1,2 @@
+-- What the program's loop goes by.
+pub mod Onward
