@@ -1,0 +1,6 @@
+-- Laws behind the functions' proofs, lowest first.
+pub mod Zeroing
+pub mod Sorting
+pub mod Rows
+pub mod Ordering
+pub mod Gapping

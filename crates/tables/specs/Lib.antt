@@ -1,0 +1,4 @@
+-- What the functions leave in their tables. No file here holds a proof.
+pub mod Sort
+pub mod Blocks
+pub mod Gaps
