@@ -1,6 +1,7 @@
 -- Laws of the parsers.
 pub mod Headers
 pub mod Fixed
+pub mod Plain
 pub mod HeaderBlock
 pub mod DataGroupBlock
 pub mod DataType
