@@ -8,3 +8,8 @@ pub mod Steps
 pub mod Room
 pub mod Listing
 pub mod Entering
+pub mod Reading
+pub mod Walking
+pub mod Calls
+pub mod DataBlocks
+pub mod DataLists

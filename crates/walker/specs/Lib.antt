@@ -1,2 +1,4 @@
 -- What the walk's counts and lent tables hold. No file here holds a proof.
 pub mod Held
+pub mod Sources
+pub mod Regions

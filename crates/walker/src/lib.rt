@@ -1,5 +1,8 @@
 // The lowest layer of the walk, the Rust's `impl Walker`: offsets visited, rows and links in lent tables of words.
 // specs/Held.antt says what state the tables hold; each function is proved to do to it what the definition does.
+pub mod regions;
+pub mod texts;
+
 ghost use mathlib.Core.Path.{_≡_};
 ghost use mathlib.Core.List.{List, [], _∷_, map};
 ghost use mathlib.Core.Bool.{cond};
