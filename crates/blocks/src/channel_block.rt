@@ -46,7 +46,7 @@ impl ChannelBlock {
     pub const MIN_LEN: u64 = 160;
 
     // The fields of the block's own bytes.
-    fn fields(b: &[u8]) -> ChannelBlock
+    pub fn fields(b: &[u8]) -> ChannelBlock
         requires { ⌜ 160 ≤ length (now b) ⌝ }
         ensures { λ r. ⌜ r ≡ channel-block-of (now (b .entry)) ⌝ }
     {

@@ -77,7 +77,7 @@ impl ChannelGroupBlock {
     }
 
     // The fields of the block's own bytes.
-    fn fields(b: &[u8]) -> ChannelGroupBlock
+    pub fn fields(b: &[u8]) -> ChannelGroupBlock
         requires { ⌜ (104 ≤ length (now b)) × (24 + 8 * num (now b) 16 8 + 32 ≤ length (now b)) ⌝ }
         ensures { λ r. ⌜ r ≡ channel-group-block-of (now (b .entry)) ⌝ }
     {

@@ -32,7 +32,7 @@ impl DataGroupBlock {
     pub const MIN_LEN: u64 = 64;
 
     // The fields of the block's own bytes.
-    fn fields(b: &[u8]) -> DataGroupBlock
+    pub fn fields(b: &[u8]) -> DataGroupBlock
         requires { ⌜ 64 ≤ length (now b) ⌝ }
         ensures { λ r. ⌜ r ≡ data-group-block-of (now (b .entry)) ⌝ }
     {

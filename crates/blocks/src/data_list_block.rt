@@ -71,7 +71,7 @@ impl DataListBlock {
     }
 
     // The fields of the block's own bytes.
-    fn fields(b: &[u8]) -> DataListBlock
+    pub fn fields(b: &[u8]) -> DataListBlock
         requires { ⌜ ListFits (now b) ⌝ }
         ensures { λ r. ⌜ r ≡ data-list-block-of (now (b .entry)) ⌝ }
     {

@@ -38,7 +38,7 @@ impl HeaderBlock {
     pub const MIN_LEN: u64 = 104;
 
     // The fields of the block's own bytes.
-    fn fields(b: &[u8]) -> HeaderBlock
+    pub fn fields(b: &[u8]) -> HeaderBlock
         requires { ⌜ 104 ≤ length (now b) ⌝ }
         ensures { λ r. ⌜ r ≡ header-block-of (now (b .entry)) ⌝ }
     {

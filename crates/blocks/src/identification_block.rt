@@ -168,7 +168,7 @@ impl IdentificationBlock {
     }
 
     // The fields of the block.
-    fn fields(file: &[u8]) -> IdentificationBlock
+    pub fn fields(file: &[u8]) -> IdentificationBlock
         requires { ⌜ 64 ≤ length (now file) ⌝ }
         ensures { λ r. ⌜ (identified (now (file .entry)) r ≡ identification-of (bytes (now (file .entry)) 0 64)) × Parts (now (file .entry)) r ⌝ }
     {

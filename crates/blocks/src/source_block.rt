@@ -51,7 +51,7 @@ impl SourceBlock {
     }
 
     // The fields of the block's own bytes.
-    fn fields(b: &[u8]) -> SourceBlock
+    pub fn fields(b: &[u8]) -> SourceBlock
         requires { ⌜ 24 + 8 * num (now b) 16 8 + 3 ≤ length (now b) ⌝ }
         ensures { λ r. ⌜ r ≡ source-block-of (now (b .entry)) ⌝ }
     {

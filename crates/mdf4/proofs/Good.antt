@@ -16,7 +16,8 @@ use Rattle.mdf4.specs.Walk.{row-of, push, after-reading, list-block, ent
 use Rattle.mdf4.specs.Reads.{row-ranges, ranges-at, links-at, read-ranges}
 use Rattle.mdf4.proofs.Bytes.{or-left, or-right, or-none}
 use Rattle.mdf4.proofs.Results.{and-then-ok, check-ok, ok-both, never}
-use Rattle.mdf4.proofs.Reading.{row-links, row-links-snoc, Reads, Agree, within-in, old-reads, row-read, link-read, read-is, read-inside, after-is, read-same, head-same, links-same, name-ok-same, read-whole}
+use Rattle.mdf4.proofs.Reading.{row-links, row-links-snoc, Reads, Agree, within-in, old-reads, row-read, link-read, read-is, read-inside, after-is, read-same, head-same, links-same, name-ok-same}
+use Rattle.mdf4.proofs.Lists.{All, all-append}
 
 -- lists of offsets
 
@@ -86,14 +87,9 @@ placed-snoc : (r : List ℕ) (ls : List Link) (ws : List Row) (w : Row) → Plac
 placed-snoc r ls [] w p l e = ((l, e), tt)
 placed-snoc r ls (v ∷ ws) w p l e = (p .0, placed-snoc r ls ws w (p .1) l e)
 
--- what is read of a listed block lies inside the recording
-abbrev pub Whole : List ℕ → List Row → Type 0
-Whole r [] = Unit {0}
-Whole r (w ∷ ws) = (w .off + read-len (w .kind) r (w .off) ≤ length r) × Whole r ws
-
-whole-snoc : (r : List ℕ) (ws : List Row) (w : Row) → Whole r ws → w .off + read-len (w .kind) r (w .off) ≤ length r → Whole r (ws ++ w ∷ [])
-whole-snoc r [] w p l = (l, tt)
-whole-snoc r (v ∷ ws) w p l = (p .0, whole-snoc r ws w (p .1) l)
+-- a listed block can be read again: its own bytes are there
+abbrev pub Readable : List ℕ → Row → Type 0
+Readable r w = read-block (w .kind) r (w .off) ≡ ok (bytes r (w .off) (read-len (w .kind) r (w .off)))
 
 -- the state in order: each listed offset was visited, and is listed once; its links stand in the link table
 pub record Inv (r : List ℕ) (s : State) : Type 0 where
@@ -102,7 +98,7 @@ pub record Inv (r : List ℕ) (s : State) : Type 0 where
   pub tidy : Tidy (length r) (s .rows)
   pub table : s .links ≡ row-links r (s .rows)
   pub placed : Placed r (s .links) (s .rows)
-  pub whole : Whole r (s .rows)
+  pub readable : All (Readable r) (s .rows)
 
 -- an offset just marked and not yet listed
 pub record Ready (a : ℕ) (s : State) : Type 0 where
@@ -212,7 +208,7 @@ module _ (a : ℕ) (r : List ℕ) (s : State) (new : elem a (s .visited) ≡ fal
     tidy = v .tidy;
     table = v .table;
     placed = v .placed;
-    whole = v .whole;
+    readable = v .readable;
   }
 
   marked-ready : Inv r s → Ready a (marked a s)
@@ -277,7 +273,7 @@ module _ (k : Kind) (a : ℕ) (h : RecordLayout) (s : State) (o : List ℕ) (ls 
   pushed : State
   pushed = push k (row-of k a h s o ls) ls s
 
-  pushed-inv : (r : List ℕ) → ls ≡ links-at r k a → a ≤ length r → a + read-len k r a ≤ length r → Ready a s → Inv r s → Inv r pushed
+  pushed-inv : (r : List ℕ) → ls ≡ links-at r k a → a ≤ length r → read-block k r a ≡ ok (bytes r a (read-len k r a)) → Ready a s → Inv r s → Inv r pushed
   unfolding pushed push row-of
   pushed-inv r z i j d v = record {
     known = λ x q. known-at x (elem x (offs (s .rows))) refl (sym (elem-snoc x a (offs (s .rows))) ∙ ap (elem x) (sym (offs-snoc (s .rows) _)) ∙ q);
@@ -285,7 +281,7 @@ module _ (k : Kind) (a : ℕ) (h : RecordLayout) (s : State) (o : List ℕ) (ls 
     tidy = tidy-snoc (length r) _ (s .rows) (v .tidy) (omega arith) i;
     table = rw (row-links-snoc, ← v .table, z);
     placed = placed-snoc r (s .links ++ ls) (s .rows) _ (placed-grow r (s .links) ls (s .rows) (v .placed)) (seam-fits (s .links) ls) (seam-is (s .links) ls ∙ z);
-    whole = whole-snoc r (s .rows) _ (v .whole) j;
+    readable = all-append (Readable r) (s .rows) _ (v .readable) (j, tt);
   }
     where
       known-at : (x : ℕ) (b : Bool) → elem x (offs (s .rows)) ≡ b → (elem x (offs (s .rows)) || eqb x a) ≡ true → elem x (s .visited) ≡ true
@@ -354,7 +350,7 @@ module _ (k : Kind) (a : ℕ) (h : RecordLayout) (r : List ℕ) (s : State) wher
     good-enter-at : Went (Ready a) (enter k a h) r s x s'
     good-enter-at = record {
       grows = λ i q. rw its-state (unfold pushed in old-reads r k (row-of k a h s block-bytes own-links) own-links s i q);
-      keeps = λ d v. rw its-state (pushed-inv k a h s block-bytes own-links r (unfold own-links block-bytes links-at in refl) (read-inside k r a block-bytes its-own) (read-whole k r a block-bytes its-own) d v);
+      keeps = λ d v. rw its-state (pushed-inv k a h s block-bytes own-links r (unfold own-links block-bytes links-at in refl) (read-inside k r a block-bytes its-own) (unfold block-bytes in its-own) d v);
       longer = rw its-state (unfold pushed push in (omega arith));
       fits = λ q. rw its-state (unfold pushed push in q);
       kept = rw its-state (unfold pushed push in refl);

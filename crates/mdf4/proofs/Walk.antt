@@ -106,7 +106,7 @@ walk-again lim r r' s e c =
 
 start-inv : (lim : Limits) (r : List ℕ) → Inv r (start lim)
 unfolding start elem row-links
-start-inv lim r = record { known = λ x h. h; apart = tt; tidy = tt; table = refl; placed = tt; whole = tt }
+start-inv lim r = record { known = λ x h. h; apart = tt; tidy = tt; table = refl; placed = tt; readable = tt }
 
 pub walk-inv : (lim : Limits) (r : List ℕ) (s : State) → walk r (start lim) ≡ ok (tt, s) → Inv r s
 unfolding walk start

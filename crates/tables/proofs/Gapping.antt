@@ -42,6 +42,15 @@ unfolding pushes
 pushes-append q [] qs = refl
 pushes-append q (p ∷ ps) qs = pushes-append (push q p) ps qs
 
+-- nothing is pushed; some ranges after the others
+pub pushed-none : (t : List ℕ) (c : ℕ) → Pushed t c [] t c
+unfolding pushes
+pushed-none t c = record { is = refl }
+
+pub pushed-then : {t : List ℕ} {c : ℕ} {ps : List Range} {t' : List ℕ} {c' : ℕ} {qs : List Range} {t'' : List ℕ} {c'' : ℕ}
+    → Pushed t c ps t' c' → Pushed t' c' qs t'' c'' → Pushed t c (ps ++ qs) t'' c''
+pushed-then {t} {c} {ps} {qs = qs} p q = record { is = rw (pushes-append (page t c) ps qs) (q .is ∙ rw (p .is)) }
+
 -- the ranges from row i of n on
 abbrev pub ranges-from : ℕ → ℕ → List ℕ → ℕ → List Range
 ranges-from w n t i = ranges-in w (n - i) (drop (i * w) t)

@@ -4,3 +4,5 @@ pub mod Sorting
 pub mod Rows
 pub mod Ordering
 pub mod Gapping
+pub mod Tables
+pub mod Words

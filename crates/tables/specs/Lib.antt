@@ -2,3 +2,5 @@
 pub mod Sort
 pub mod Blocks
 pub mod Gaps
+pub mod Rows
+pub mod Laid

@@ -1,15 +1,7 @@
--- Laws that the proofs of these functions, and of the walk above them, cite.
-pub mod Offsets
-pub mod Storing
-pub mod Tables
-pub mod States
-pub mod Start
-pub mod Steps
-pub mod Room
-pub mod Listing
-pub mod Entering
-pub mod Reading
-pub mod Walking
-pub mod Calls
-pub mod DataBlocks
-pub mod DataLists
+-- Laws that the proofs of the walk's functions cite.
+pub mod Nexts
+pub mod Chaining
+pub mod ChannelSteps
+pub mod Grouping
+pub mod DataGroups
+pub mod HeaderWalk

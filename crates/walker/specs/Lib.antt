@@ -1,4 +1,6 @@
--- What the walk's counts and lent tables hold. No file here holds a proof.
-pub mod Held
-pub mod Sources
-pub mod Regions
+-- What the steps of a chain answer, and parts of the walks. No file here holds a proof.
+pub mod Chains
+pub mod Channels
+pub mod Groups
+pub mod DataGroups
+pub mod Header

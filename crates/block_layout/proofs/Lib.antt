@@ -1,0 +1,5 @@
+-- Laws that the proofs of the entries cite.
+pub mod Laying
+pub mod Standing
+pub mod Exits
+pub mod Promises

@@ -1,0 +1,69 @@
+-- Demand 3 of the four entries, in its order. A call takes the recording r and lends tables and output of the lengths n; it answers a
+-- and leaves the words and bytes v, b, l, g, s and o, which `left` puts together. The hypothesis on a call is its contract word for
+-- word (src/lib.rt), so what stands here holds of every call. Where an entry takes no scratch table or no output, s or o is [].
+use mathlib.Core.Path.{_≡_, refl, sym, ap, _∙_}
+use mathlib.Core.List.{List}
+use Prim.Native.Nat.{ℕ}
+use Rattle.mdf4.specs.Act.{ok}
+use Rattle.mdf4.specs.Answers.{Lent, Counts, Exit, layout-exit, to-text-exit, to-tree-exit, clear-list-exit}
+use Rattle.mdf4.specs.Demand3.{Alike, Again, Tables, Cleared}
+use Rattle.mdf4.proofs.Demand3 as law
+use Rattle.block_layout.specs.declared.Answer.{Answer}
+use Rattle.block_layout.specs.Entries.{answered, exit-with, left}
+
+answer-is : (a : Answer) (v b l g s o : List ℕ) → left a v b l g s o .answer ≡ answered a
+unfolding exit-with
+answer-is a v b l g s o = refl
+
+module _ (n : Lent) (r : List ℕ) (a : Answer) (v b l g s o : List ℕ) (c : Counts) (accepted : answered a ≡ ok c) where
+  -- Two recordings. The second has the same length and the same lengths lent, and agrees with the first, an accepted one, on its read
+  -- bytes (`Alike`): it gets the same answer, and the same words and bytes are left in all lent memory.
+  module _ (r' : List ℕ) (a' : Answer) (v' b' l' g' s' o' : List ℕ) (alike : Alike n r r') where
+    again : (entry : Lent → List ℕ → Exit) → Again entry → left a v b l g s o ≡ entry n r → left a' v' b' l' g' s' o' ≡ entry n r'
+        → left a' v' b' l' g' s' o' ≡ left a v b l g s o
+    again entry h p q =
+        let e : entry n r .answer ≡ ok c = ap (λ (x : Exit). x .answer) (sym p) ∙ answer-is a v b l g s o ∙ accepted in
+        q ∙ h .same n r r' c e alike ∙ sym p
+
+    pub layout-again : left a v b l g s o ≡ layout-exit n r → left a' v' b' l' g' s' o' ≡ layout-exit n r'
+        → left a' v' b' l' g' s' o' ≡ left a v b l g s o
+    layout-again = again layout-exit law.layout-again
+
+    pub to-text-again : left a v b l g s o ≡ to-text-exit n r → left a' v' b' l' g' s' o' ≡ to-text-exit n r'
+        → left a' v' b' l' g' s' o' ≡ left a v b l g s o
+    to-text-again = again to-text-exit law.to-text-again
+
+    pub to-tree-again : left a v b l g s o ≡ to-tree-exit n r → left a' v' b' l' g' s' o' ≡ to-tree-exit n r'
+        → left a' v' b' l' g' s' o' ≡ left a v b l g s o
+    to-tree-again = again to-tree-exit law.to-tree-again
+
+    pub clear-list-again : left a v b l g s o ≡ clear-list-exit n r → left a' v' b' l' g' s' o' ≡ clear-list-exit n r'
+        → left a' v' b' l' g' s' o' ≡ left a v b l g s o
+    clear-list-again = again clear-list-exit law.clear-list-again
+
+  -- The tables (`Tables`). Listed offsets strictly ascend; each byte lies in exactly one gap if no extent holds it, else in none; each gap
+  -- is one as document 01 has it; the gaps' sizes add up to the number of bytes that no extent holds.
+  tables : (entry : Lent → List ℕ → Exit) → (entry n r .answer ≡ ok c → Tables r (entry n r) c) → left a v b l g s o ≡ entry n r
+      → Tables r (left a v b l g s o) c
+  tables entry h p =
+      let e : entry n r .answer ≡ ok c = ap (λ (x : Exit). x .answer) (sym p) ∙ answer-is a v b l g s o ∙ accepted in
+      rw p (h e)
+
+  pub layout-tables : left a v b l g s o ≡ layout-exit n r → Tables r (left a v b l g s o) c
+  layout-tables = tables layout-exit (law.layout-tables n r c)
+
+  pub to-text-tables : left a v b l g s o ≡ to-text-exit n r → Tables r (left a v b l g s o) c
+  to-text-tables = tables to-text-exit (law.to-text-tables n r c)
+
+  pub to-tree-tables : left a v b l g s o ≡ to-tree-exit n r → Tables r (left a v b l g s o) c
+  to-tree-tables = tables to-tree-exit (law.to-tree-tables n r c)
+
+  pub clear-list-tables : left a v b l g s o ≡ clear-list-exit n r → Tables r (left a v b l g s o) c
+  clear-list-tables = tables clear-list-exit (law.clear-list-tables n r c)
+
+  -- The clear list (`Cleared`). Its output is the CLR bytes of ranges; a byte is in one of them exactly when it lies in a gap and is not
+  -- read; and no list of ranges that holds the same bytes is shorter.
+  pub clear-list-cleared : left a v b l g s o ≡ clear-list-exit n r → Cleared n r (left a v b l g s o) c
+  clear-list-cleared p =
+      let e : clear-list-exit n r .answer ≡ ok c = ap (λ (x : Exit). x .answer) (sym p) ∙ answer-is a v b l g s o ∙ accepted in
+      rw p (law.cleared n r c e)

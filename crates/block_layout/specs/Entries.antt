@@ -1,0 +1,63 @@
+-- The answers of the entries and the words at exit, in the terms of the definition's `Exit`; and what every entry begins with: the
+-- layout, standing in the tables.
+use mathlib.Core.Path.{_≡_}
+use mathlib.Core.List.{List, []}
+use Prim.Native.Nat.{ℕ, _*_, _≤_}
+use lib.ListN.{length, replicate}
+use Rattle.mdf4.specs.Bytes.{concat-map}
+use Rattle.mdf4.specs.Act.{Out, ok, err}
+use Rattle.mdf4.specs.Layout.{Layout}
+use Rattle.mdf4.specs.Answers.{Lent, Counts, Exit, block-row-words, pair-words, row-words, link-words, range-words, filled, laid}
+use Rattle.blocks.specs.Errors.{numbers}
+use Rattle.block_layout.specs.declared.Answer.{Answer}
+use Rattle.block_layout.specs.declared.Answer.the-variants as answer-variants
+use Rattle.block_layout.specs.declared.Laid.{Laid}
+use Rattle.block_layout.specs.declared.Laid.the-variants as laid-variants
+
+-- the lengths lent: of the four tables, of the scratch table and of the output
+abbrev pub lent : List ℕ → List ℕ → List ℕ → List ℕ → ℕ → ℕ → Lent
+lent v b l g scratch out = record { visited = length v; blocks = length b; links = length l; gaps = length g; scratch = scratch; out = out }
+
+-- what an answer says
+abbrev pub answered : Answer → Out Counts
+answered (answer-variants.Accepted v b l g n) = ok (record { visited = v; blocks = b; links = l; gaps = g; bytes = n })
+answered (answer-variants.Refused e) = err (numbers e)
+
+-- an answer with the words of the tables, the scratch table and the bytes of the output at exit
+unfoldable pub exit-with : Out Counts → List ℕ → List ℕ → List ℕ → List ℕ → List ℕ → List ℕ → Exit
+exit-with a v b l g scratch out = record { answer = a; visited = v; blocks = b; links = l; gaps = g; scratch = scratch; out = out }
+
+abbrev pub left : Answer → List ℕ → List ℕ → List ℕ → List ℕ → List ℕ → List ℕ → Exit
+left a = exit-with (answered a)
+
+-- four tables, with their words before and behind, were zeroed
+pub record Zeroed (v b l g v' b' l' g' : List ℕ) : Type 0 where
+  pub visited : v' ≡ replicate (length v) 0
+  pub blocks : b' ≡ replicate (length b) 0
+  pub links : l' ≡ replicate (length l) 0
+  pub gaps : g' ≡ replicate (length g) 0
+
+-- the recording r has a layout, it stands in the tables v, b, l and g, and nv, nb, nl and ng rows of them are in use
+pub record Stands (n : Lent) (r : List ℕ) (nv nb nl ng : ℕ) (v b l g : List ℕ) : Type 0 where
+  pub layout : Layout
+  pub is : laid n r ≡ ok layout
+  pub visited : v ≡ filled (n .visited) (layout .state .visited)
+  pub blocks : b ≡ filled (n .blocks) (concat-map (row-words []) (layout .blocks))
+  pub links : l ≡ filled (n .links) (concat-map link-words (layout .state .links))
+  pub gaps : g ≡ filled (n .gaps) (concat-map range-words (layout .gaps))
+  pub visited-count : nv ≡ length (layout .state .visited)
+  pub blocks-count : nb ≡ length (layout .blocks)
+  pub links-count : nl ≡ length (layout .state .links)
+  pub gaps-count : ng ≡ length (layout .gaps)
+  pub visited-fit : nv ≤ length v
+  pub blocks-fit : nb * block-row-words ≤ length b
+  pub links-fit : nl * pair-words ≤ length l
+  pub gaps-fit : ng * pair-words ≤ length g
+
+abbrev pub Lays : Lent → List ℕ → Laid → List ℕ → List ℕ → List ℕ → List ℕ → Type 0
+Lays n r (laid-variants.Tables nv nb nl ng) v b l g = Stands n r nv nb nl ng v b l g
+Lays n r (laid-variants.Refused e) v b l g = laid n r ≡ err (numbers e)
+
+-- the first part of an entry answers x: the layout stands in the tables; or the definition's refusal, and the tables are left free
+pub record LaidMet (n : Lent) (r : List ℕ) (x : Laid) (v b l g : List ℕ) : Type 0 where
+  pub is : Lays n r x v b l g

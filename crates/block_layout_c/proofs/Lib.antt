@@ -1,0 +1,3 @@
+-- Laws that the proofs of these functions cite.
+pub mod Storing
+pub mod Exits

@@ -1,0 +1,73 @@
+// The entries for C and Rust to call: each does what the entry of the same name does, and its answer goes out as words.
+// include/block_layout.h declares them.
+ghost use mathlib.Core.Path.{_≡_};
+ghost use mathlib.Core.List.{[]};
+ghost use Rattle.mdf4.specs.Answers.{layout-exit};
+ghost use Rattle.block_layout.specs.Entries.{lent, answered, exit-with};
+ghost use Rattle.block_layout_c.specs.Words.{answer-words, stored};
+use block_layout::Answer;
+
+// Words of an answer.
+const ANSWER_WORDS: usize = 9;
+
+// The words of an answer: number (0 where it is accepted), place, a and b; then the rows of the visited, block, link and gap tables
+// and the bytes of the output in use.
+fn words_of(answer: Answer) -> [u64; 9]
+    ensures { λ r. ⌜ r ≡ answer-words (answered answer) ⌝ }
+{
+    match answer {
+        Answer::Accepted {
+            visited,
+            blocks,
+            links,
+            gaps,
+            bytes,
+        } => [
+            0,
+            0,
+            0,
+            0,
+            visited as u64,
+            blocks as u64,
+            links as u64,
+            gaps as u64,
+            bytes as u64,
+        ],
+        Answer::Refused(e) => {
+            let n = e.numbers();
+            [n.number, n.place, n.a, n.b, 0, 0, 0, 0, 0]
+        }
+    }
+}
+
+// The words of an answer go into the words lent for it: those that fit, and what is lent behind the ninth is left as it was.
+fn store_answer(words: &mut [u64], answer: Answer)
+    ensures { λ r. ⌜ now (words .exit) ≡ stored (answer-words (answered answer)) (now (words .entry)) ⌝ }
+{
+    let own = words_of(answer);
+    let mut i: usize = 0;
+    while i < words.len() {
+        if ANSWER_WORDS <= i {
+            return;
+        }
+        words[i] = own[i];
+        i += 1;
+    }
+}
+
+// The entry `layout`.
+#[no_mangle]
+pub extern "C" fn block_layout_c_layout(
+    data: &[u8],
+    visited: &mut [u64],
+    blocks: &mut [u64],
+    links: &mut [u64],
+    gaps: &mut [u64],
+    answer: &mut [u64],
+)
+    ensures tables { λ r. ⌜ exit-with (layout-exit (lent (now (visited .entry)) (now (blocks .entry)) (now (links .entry)) (now (gaps .entry)) 0 0) (now («data» .entry)) .answer) (now (visited .exit)) (now (blocks .exit)) (now (links .exit)) (now (gaps .exit)) [] [] ≡ layout-exit (lent (now (visited .entry)) (now (blocks .entry)) (now (links .entry)) (now (gaps .entry)) 0 0) (now («data» .entry)) ⌝ }
+    ensures answer { λ r. ⌜ now (answer .exit) ≡ stored (answer-words (layout-exit (lent (now (visited .entry)) (now (blocks .entry)) (now (links .entry)) (now (gaps .entry)) 0 0) (now («data» .entry)) .answer)) (now (answer .entry)) ⌝ }
+{
+    let r = block_layout::layout(data, visited, blocks, links, gaps);
+    store_answer(answer, r);
+}

@@ -1,0 +1,329 @@
+// The clear list behind the walk. The scratch table takes a range for each listed block, over its extent and its own bytes, one
+// for each channel name that is read and one for each link with four bytes inside the file. What these ranges leave is clear.
+ghost use mathlib.Core.Path.{_≡_};
+ghost use Prim.Native.Nat.{ℕ, _+_, _*_, _/_, _^_, _≤_, _<_};
+ghost use lib.ListN.{length};
+ghost use Rattle.fmt.specs.Text.{Wrote};
+ghost use Rattle.mdf4.specs.Bytes.{concat-map};
+ghost use Rattle.mdf4.specs.Act.{DL, ok, and-then};
+ghost use Rattle.mdf4.specs.Kinds.{read-len};
+ghost use Rattle.mdf4.specs.Reads.{read-ranges};
+ghost use Rattle.mdf4.specs.Layout.{gap, compute-gaps, Layout, layout-of};
+ghost use Rattle.mdf4.specs.Clear.{le-bytes, range-bytes, clr-bytes, clear-ranges};
+ghost use Rattle.mdf4.specs.Answers.{block-row-words, pair-words, room};
+ghost use Rattle.mdf4.specs.Demand3.{ranges-in};
+ghost use Rattle.mdf4.proofs.Good.{Readable, Inv};
+ghost use Rattle.tables.specs.Gaps.{Pushed};
+ghost use Rattle.tables.specs.Laid.{Printable};
+ghost use Rattle.tables.specs.Rows.{kind-of, row-at, held-rows, held-links};
+ghost use Rattle.clear_ranges.specs.Covers.{name-cover, cover, row-cover, target-cover, link-cover};
+ghost use Rattle.clear_ranges.specs.Lists.{ClearMet};
+use blocks::channel_block::ChannelBlock;
+use blocks::common::wide;
+use blocks::data_group_block::DataGroupBlock;
+use blocks::error::MdfError;
+use blocks::header_block::HeaderBlock;
+use blocks::identification_block::IdentificationBlock;
+use blocks::text_block::TextBlock;
+use byteorder::read_u8;
+use byteorder::read_u32;
+use byteorder::read_u64;
+use fmt::put;
+use fmt::put_bytes;
+use fmt::put_times;
+use tables::BLOCK_ROW_WORDS;
+use tables::PAIR_WORDS;
+use tables::larger;
+use tables::put_range;
+use tables::sort_rows;
+
+// The mark at the head of a clear list.
+pub const CLEAR_LIST_MARK: [u8; 3] = *b"CLR";
+
+// Document 01's numbers of the kinds whose read bytes are not their header alone.
+const ID: u64 = 1;
+
+const HD: u64 = 2;
+
+const DG: u64 = 3;
+
+const CG: u64 = 4;
+
+const CN: u64 = 5;
+
+const SI: u64 = 6;
+
+const TX: u64 = 7;
+
+const MD: u64 = 8;
+
+const DL: u64 = 11;
+
+pub enum Cleared {
+    // how many bytes were to be written
+    Bytes(usize),
+    Refused(MdfError),
+}
+
+// The read bytes of a data list.
+fn list_len(file: &[u8], offset: u64) -> u64
+    requires { ⌜ offset + read-len DL (now file) offset ≤ length (now file) ⌝ }
+    ensures { λ r. ⌜ r ≡ read-len DL (now (file .entry)) offset ⌝ }
+{
+    let at = offset as usize;
+    let links_nr = read_u64(file, at + 16);
+    let behind = at + (24 + 8 * links_nr as usize);
+    if read_u8(file, behind) % 2 == 1 {
+        return 32 + 8 * links_nr + 8;
+    }
+    32 + 8 * links_nr + 8 * wide(read_u32(file, behind + 4))
+}
+
+// The read bytes of a block of a kind.
+fn read_len(file: &[u8], offset: u64, kind: u64) -> u64
+    requires { ⌜ offset + read-len (kind-of kind) (now file) offset ≤ length (now file) ⌝ }
+    ensures { λ r. ⌜ r ≡ read-len (kind-of kind) (now (file .entry)) offset ⌝ }
+{
+    let at = offset as usize;
+    if kind == ID {
+        return IdentificationBlock::MIN_LEN;
+    }
+    if kind == HD {
+        return HeaderBlock::MIN_LEN;
+    }
+    if kind == DG {
+        return DataGroupBlock::MIN_LEN;
+    }
+    if kind == CG {
+        return 24 + 8 * read_u64(file, at + 16) + 32;
+    }
+    if kind == CN {
+        return ChannelBlock::MIN_LEN;
+    }
+    if kind == SI {
+        return 24 + 8 * read_u64(file, at + 16) + 3;
+    }
+    if kind == TX {
+        return larger(24, read_u64(file, at + 8));
+    }
+    if kind == MD {
+        return larger(24, read_u64(file, at + 8));
+    }
+    if kind == DL {
+        return list_len(file, offset);
+    }
+    24
+}
+
+// The range of the channel name at `target`, where it is read.
+fn put_name(file: &[u8], target: u64, scratch: &mut [u64], count: usize) -> usize
+    requires { ⌜ count < 2 ^ 63 ⌝ }
+    ensures { λ r. ⌜ Pushed (now (scratch .entry)) count (name-cover (now (file .entry)) target) (now (scratch .exit)) r × (r ≤ count + 1) ⌝ }
+{
+    let len = file.len() as u64;
+    if target == 0 {
+        return count;
+    }
+    if len < 24 {
+        return count;
+    }
+    if len - 24 < target {
+        return count;
+    }
+    let at = target as usize;
+    if read_u32(file, at) != TextBlock::ID {
+        return count;
+    }
+    let size = larger(24, read_u64(file, at + 8));
+    if len - target < size {
+        return put_range(scratch, count, target, target + 24);
+    }
+    put_range(scratch, count, target, target + size)
+}
+
+// The ranges of a listed block: its extent and own bytes, and its name.
+fn put_block(
+    file: &[u8],
+    offset: u64,
+    end: u64,
+    kind: u64,
+    scratch: &mut [u64],
+    count: usize,
+) -> usize
+    requires { ⌜ (count < 2 ^ 62) × (offset + read-len (kind-of kind) (now file) offset ≤ length (now file)) ⌝ }
+    ensures { λ r. ⌜ Pushed (now (scratch .entry)) count (cover (now (file .entry)) offset end (kind-of kind)) (now (scratch .exit)) r × (r ≤ count + 2) ⌝ }
+{
+    let read = read_len(file, offset, kind);
+    let next = put_range(scratch, count, offset, larger(end, offset + read));
+    if kind == CN {
+        return put_name(file, read_u64(file, offset as usize + 40), scratch, next);
+    }
+    next
+}
+
+// The ranges of the n listed blocks.
+fn put_blocks(file: &[u8], blocks: &[u64], n: usize, scratch: &mut [u64]) -> usize
+    requires { ⌜ (n * block-row-words ≤ length (now blocks)) × ((i : ℕ) → i < n → Readable (now file) (row-at i (now blocks))) ⌝ }
+    ensures { λ r. ⌜ Pushed (now (scratch .entry)) 0 (concat-map (row-cover (now (file .entry))) (held-rows n (now (blocks .entry)))) (now (scratch .exit)) r × (r ≤ 2 * n) ⌝ }
+{
+    let mut count = 0;
+    let mut i = 0;
+    while i < n {
+        let at = i * BLOCK_ROW_WORDS;
+        count = put_block(
+            file,
+            blocks[at],
+            blocks[at + 1],
+            blocks[at + 4],
+            scratch,
+            count,
+        );
+        i += 1;
+    }
+    count
+}
+
+// The four bytes at the target of a link, where it is not null and they lie inside the file.
+fn put_link(file: &[u8], target: u64, scratch: &mut [u64], count: usize) -> usize
+    requires { ⌜ count < 2 ^ 63 ⌝ }
+    ensures { λ r. ⌜ Pushed (now (scratch .entry)) count (target-cover (now (file .entry)) target) (now (scratch .exit)) r × (r ≤ count + 1) ⌝ }
+{
+    let len = file.len() as u64;
+    if target == 0 {
+        return count;
+    }
+    if len < 4 {
+        return count;
+    }
+    if len - 4 < target {
+        return count;
+    }
+    put_range(scratch, count, target, target + 4)
+}
+
+// The ranges of the m links.
+fn put_links(file: &[u8], links: &[u64], m: usize, scratch: &mut [u64], start: usize) -> usize
+    requires { ⌜ (start < 2 ^ 62) × (m * pair-words ≤ length (now links)) ⌝ }
+    ensures { λ r. ⌜ Pushed (now (scratch .entry)) start (concat-map (link-cover (now (file .entry))) (held-links m (now (links .entry)))) (now (scratch .exit)) r × (r ≤ start + m) ⌝ }
+{
+    let mut count = start;
+    let mut i = 0;
+    while i < m {
+        count = put_link(file, links[i * PAIR_WORDS], scratch, count);
+        i += 1;
+    }
+    count
+}
+
+// The n least bytes of x, least first.
+fn put_le(out: &mut [u8], at: usize, x: u64, n: usize) -> usize
+    ensures { λ r. ⌜ Wrote (now (out .entry)) at (le-bytes n x) (now (out .exit)) r ⌝ }
+{
+    let mut a = at;
+    let mut left = x;
+    let mut i = 0;
+    while i < n {
+        a = put(out, a, (left % 256) as u8);
+        left = left / 256;
+        i += 1;
+    }
+    a
+}
+
+// The start and the end of the gap from `start` to `end`, where there is one.
+fn put_gap(out: &mut [u8], at: usize, start: u64, end: u64) -> usize
+    ensures { λ r. ⌜ Wrote (now (out .entry)) at (concat-map range-bytes (gap start end)) (now (out .exit)) r ⌝ }
+{
+    if start < end {
+        let a = put_le(out, at, start, 8);
+        return put_le(out, a, end, 8);
+    }
+    at
+}
+
+// The gaps between the first n ranges of t, in a file of len bytes.
+fn put_gaps(t: &[u64], n: usize, len: u64, out: &mut [u8], start: usize) -> usize
+    requires { ⌜ n * pair-words ≤ length (now t) ⌝ }
+    ensures { λ r. ⌜ Wrote (now (out .entry)) start (concat-map range-bytes (compute-gaps len 0 (ranges-in pair-words n (now (t .entry))))) (now (out .exit)) r ⌝ }
+{
+    let mut a = start;
+    let mut cursor = 0;
+    let mut i = 0;
+    while i < n {
+        let at = i * PAIR_WORDS;
+        a = put_gap(out, a, cursor, t[at]);
+        cursor = larger(cursor, t[at + 1]);
+        i += 1;
+    }
+    put_gap(out, a, cursor, len)
+}
+
+// One more where there is a gap from `start` to `end`.
+fn count_gap(count: usize, start: u64, end: u64) -> usize
+    requires { ⌜ count < 2 ^ 63 ⌝ }
+    ensures { λ r. ⌜ (r ≡ count + length (gap start end)) × (r ≤ count + 1) ⌝ }
+{
+    if end <= start {
+        return count;
+    }
+    count + 1
+}
+
+// How many gaps there are between the first n ranges of t.
+fn count_gaps(t: &[u64], n: usize, len: u64) -> usize
+    requires { ⌜ n * pair-words ≤ length (now t) ⌝ }
+    ensures { λ r. ⌜ r ≡ length (compute-gaps len 0 (ranges-in pair-words n (now (t .entry)))) ⌝ }
+{
+    let mut count = 0;
+    let mut cursor = 0;
+    let mut i = 0;
+    while i < n {
+        let at = i * PAIR_WORDS;
+        count = count_gap(count, cursor, t[at]);
+        cursor = larger(cursor, t[at + 1]);
+        i += 1;
+    }
+    count_gap(count, cursor, len)
+}
+
+// The CLR bytes of a file of len bytes in which the first n ranges of t, by start, are taken up.
+fn put_clr(t: &[u64], n: usize, len: u64, out: &mut [u8]) -> usize
+    requires { ⌜ n * pair-words ≤ length (now t) ⌝ }
+    ensures { λ r. ⌜ Wrote (now (out .entry)) 0 (clr-bytes len (compute-gaps len 0 (ranges-in pair-words n (now (t .entry))))) (now (out .exit)) r ⌝ }
+{
+    let count = count_gaps(t, n, len);
+    let mark = CLEAR_LIST_MARK;
+    let a = put_bytes(out, 0, &mark);
+    let a = put_le(out, a, 1, 2);
+    let a = put_times(out, a, 0, 3);
+    let a = put_le(out, a, len, 8);
+    let a = put_le(out, a, count as u64, 8);
+    put_gaps(t, n, len, out, a)
+}
+
+// The clear list of an accepted recording whose n block rows and m link rows stand in the tables, from the output's start on. What
+// stands in the scratch table then is left free.
+pub fn put_clear_list(
+    file: &[u8],
+    blocks: &[u64],
+    n: usize,
+    links: &[u64],
+    m: usize,
+    scratch: &mut [u64],
+    out: &mut [u8],
+) -> Cleared
+    requires { ⌜ Printable (now file) n (now blocks) m (now links) ⌝ }
+    ensures { λ r. ⌜ ((y : Layout) → y .blocks ≡ held-rows n (now (blocks .entry)) → y .state .links ≡ held-links m (now (links .entry)) → Inv (now (file .entry)) (y .state) → y ≡ layout-of (now (file .entry)) (y .state) → ClearMet r (now (out .entry)) (now (out .exit)) (and-then (room (length (now (scratch .entry)) / pair-words) (length (read-ranges (now (file .entry)) (y .state)))) (λ u. ok (clr-bytes (length (now (file .entry))) (clear-ranges (now (file .entry)) y))))) ⌝ }
+{
+    let lent = scratch.len() / PAIR_WORDS;
+    let taken = put_blocks(file, blocks, n, scratch);
+    let count = put_links(file, links, m, scratch, taken);
+    if lent < count {
+        return Cleared::Refused(MdfError::TableTooShort {
+            lent: lent as u64,
+            needed: count as u64,
+        });
+    }
+    sort_rows(scratch, PAIR_WORDS, count);
+    Cleared::Bytes(put_clr(scratch, count, file.len() as u64, out))
+}

@@ -1,0 +1,17 @@
+use Rattle.describe.proofs.Written.{id-texts}
+use borrow.Author.Needs.{needs}
+use Rattle.describe.proofs.descriptions.put_identification.Statement.{statement}
+use Rattle.describe.proofs.descriptions.put_identification.Tie as tie
+
+pub put-identification-spec : {M : Type 1} → statement M
+put-identification-spec =
+    tie.close
+    (tie.spec
+    (λ c. search needs)
+    (λ c κs. search needs)
+    (λ c. search needs)
+    (λ c κs. search needs)
+    (λ c. search needs)
+    (λ c κs. search needs)
+    (λ c. search needs)
+    (λ c. search (needs, id-texts)))

@@ -1,0 +1,3 @@
+-- What the descriptions are told.
+pub mod Info
+pub mod Links

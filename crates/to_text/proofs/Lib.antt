@@ -1,0 +1,2 @@
+-- Laws behind the functions' proofs.
+pub mod Lines

@@ -1,0 +1,3 @@
+-- What the walk's functions are told. No file here holds a proof.
+pub mod Sources
+pub mod Regions

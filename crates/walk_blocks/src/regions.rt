@@ -1,0 +1,440 @@
+// Data regions: the Rust's record_simple_data_block, record_signal_data_block, walk_data_region and walk_data_list.
+ghost use mathlib.Core.Path.{_≡_};
+ghost use mathlib.Core.List.{List, map};
+ghost use Prim.Native.Nat.{ℕ, _+_, _*_, _≤_};
+ghost use lib.ListN.{length};
+ghost use Rattle.mdf4.specs.Bytes.{words};
+ghost use Rattle.mdf4.specs.Answers.{pair-words};
+ghost use Rattle.mdf4.specs.Act as spec;
+ghost use Rattle.mdf4.specs.Kinds as kinds;
+ghost use Rattle.mdf4.specs.Walk as walk;
+ghost use Rattle.walk_state.specs.Held.{held, said, state-of, checked, Within, Met, Linked, Tells, Counted};
+ghost use Rattle.walk_blocks.specs.Regions.{layout, Data, open-list, enter-list, data-list, Opens, Deep, handed-up};
+use blocks::common::BlockHeader;
+use blocks::common::HeaderRead;
+use blocks::common::wide;
+use blocks::data_list_block::DataListBlock;
+use blocks::data_list_block::DataListBlockRead;
+use blocks::error::MdfError;
+use byteorder::read_u32;
+use walk_state::Block;
+use walk_state::Walk;
+use walk_state::Walked;
+use walk_state::check_room;
+use walk_state::check_target;
+use walk_state::list_block;
+use walk_state::make_link;
+use walk_state::push_link;
+use walk_state::push_row;
+use walk_state::row_of;
+use walk_state::seen;
+use walk_state::visit;
+
+// Document 01's numbers of the kinds.
+const DT: u64 = 9;
+
+const SD: u64 = 10;
+
+const DL: u64 = 11;
+
+const UD: u64 = 13;
+
+// How many lists may be entered and not left.
+const MAX_LISTS: u64 = 512;
+
+// A data list that was visited, that is listed with its links, or that refuses.
+pub enum Entered {
+    Seen(Walk),
+    List { w: Walk, count: usize },
+    Refused(MdfError),
+}
+
+// Reads a header and lists its block, which has no links.
+fn list_header(
+    file: &[u8],
+    blocks: &mut [u64],
+    links: &mut [u64],
+    w: Walk,
+    kind: u64,
+    addr: u64,
+    record_size: u64,
+    invalidation_bytes: u64,
+    record_id_len: u64,
+) -> Walked
+    requires { ⌜ Counted w (now links) ⌝ }
+    ensures { λ r. ⌜ ((k : spec.Kind) (h : kinds.RecordLayout) (v : List ℕ) → Data k h kind «record_size» «invalidation_bytes» «record_id_len» → Within w v (now (blocks .entry)) (now (links .entry)) → Met w r v (now (blocks .exit)) (now (links .exit)) (said (walk.enter k addr h (now (file .entry)) (held w v (now (blocks .entry)) (now (links .entry)))))) ⌝ }
+{
+    match BlockHeader::parse(file, addr, 24) {
+        HeaderRead::Refused(e) => Walked::Refused(e),
+        HeaderRead::Header(header) => {
+            let block = Block {
+                offset: addr,
+                size: header.block_len,
+                mark: wide(header.id),
+                kind,
+                record_size,
+                invalidation_bytes,
+                record_id_len,
+            };
+            list_block(file, blocks, links, w, block, &[])
+        }
+    }
+}
+
+// Marks a data block as visited and lists it.
+pub fn record_data_block(
+    file: &[u8],
+    visited: &mut [u64],
+    blocks: &mut [u64],
+    links: &mut [u64],
+    w: Walk,
+    kind: u64,
+    addr: u64,
+    record_size: u64,
+    invalidation_bytes: u64,
+    record_id_len: u64,
+) -> Walked
+    requires { ⌜ Within w (now visited) (now blocks) (now links) ⌝ }
+    ensures { λ r. ⌜ ((k : spec.Kind) (h : kinds.RecordLayout) → Data k h kind «record_size» «invalidation_bytes» «record_id_len» → Met w r (now (visited .exit)) (now (blocks .exit)) (now (links .exit)) (said (walk.record-data-block k addr h (now (file .entry)) (held w (now (visited .entry)) (now (blocks .entry)) (now (links .entry)))))) ⌝ }
+{
+    if seen(visited, w.visited, addr) {
+        return Walked::On(w);
+    }
+    let r = visit(visited, w, addr);
+    let Walked::On(w1) = r else {
+        return r;
+    };
+    list_header(
+        file,
+        blocks,
+        links,
+        w1,
+        kind,
+        addr,
+        record_size,
+        invalidation_bytes,
+        record_id_len,
+    )
+}
+
+// The same of a block of an unknown kind; with fewer than 24 bytes left it is not listed.
+pub fn record_unknown_block(
+    file: &[u8],
+    visited: &mut [u64],
+    blocks: &mut [u64],
+    links: &mut [u64],
+    w: Walk,
+    addr: u64,
+) -> Walked
+    requires { ⌜ Within w (now visited) (now blocks) (now links) ⌝ }
+    ensures { λ r. ⌜ Met w r (now (visited .exit)) (now (blocks .exit)) (now (links .exit)) (said (walk.record-unknown-block addr (now (file .entry)) (held w (now (visited .entry)) (now (blocks .entry)) (now (links .entry))))) ⌝ }
+{
+    if seen(visited, w.visited, addr) {
+        return Walked::On(w);
+    }
+    let r = visit(visited, w, addr);
+    let Walked::On(w1) = r else {
+        return r;
+    };
+    let len = file.len() as u64;
+    if len < 24 {
+        return Walked::On(w1);
+    }
+    if len - 24 < addr {
+        return Walked::On(w1);
+    }
+    list_header(file, blocks, links, w1, UD, addr, 0, 0, 0)
+}
+
+// Whether 1 + a mark is that of ##DT, ##DV, ##RD or ##RV.
+fn leads_to_data(found: u64) -> bool
+    ensures { λ r. ⌜ ((t : ℕ) → r ≡ walk.leads-to-data (record { target = t; found = found })) ⌝ }
+{
+    if found == 0x5444_2324 {
+        return true;
+    }
+    if found == 0x5644_2324 {
+        return true;
+    }
+    if found == 0x4452_2324 {
+        return true;
+    }
+    if found == 0x5652_2324 {
+        return true;
+    }
+    false
+}
+
+// What a data link leads to where that is no data list, by the mark found.
+pub fn walk_data_block(
+    file: &[u8],
+    visited: &mut [u64],
+    blocks: &mut [u64],
+    links: &mut [u64],
+    w: Walk,
+    target: u64,
+    found: u64,
+    record_size: u64,
+    invalidation_bytes: u64,
+    record_id_len: u64,
+) -> Walked
+    requires { ⌜ Within w (now visited) (now blocks) (now links) ⌝ }
+    ensures { λ r. ⌜ Met w r (now (visited .exit)) (now (blocks .exit)) (now (links .exit)) (said (walk.walk-data-block (layout «record_size» «invalidation_bytes» «record_id_len») (record { target = target; found = found }) (now (file .entry)) (held w (now (visited .entry)) (now (blocks .entry)) (now (links .entry))))) ⌝ }
+{
+    if found == 0 {
+        return Walked::On(w);
+    }
+    if leads_to_data(found) {
+        return record_data_block(
+            file,
+            visited,
+            blocks,
+            links,
+            w,
+            DT,
+            target,
+            record_size,
+            invalidation_bytes,
+            record_id_len,
+        );
+    }
+    // "##SD"
+    if found == 0x4453_2324 {
+        return record_data_block(file, visited, blocks, links, w, SD, target, 0, 0, 0);
+    }
+    record_unknown_block(file, visited, blocks, links, w, target)
+}
+
+// The targets of a data list have to lie below 2^64 with their four bytes.
+fn check_links(file: &[u8], w: Walk, addr: u64, count: usize) -> Walked
+    requires { ⌜ addr + 24 + 8 * count ≤ length (now file) ⌝ }
+    ensures { λ r. ⌜ checked r ≡ walk.targets-ok (words (now (file .entry)) (addr + 24) count) ⌝ }
+{
+    let mut i = 0;
+    while i < count {
+        let target = DataListBlock::data_link(file, addr, i as u64);
+        let r = check_target(w, target);
+        let Walked::On(_) = r else {
+            return r;
+        };
+        i += 1;
+    }
+    Walked::On(w)
+}
+
+// Pushes the links of a data list.
+fn push_list(file: &[u8], links: &mut [u64], w: Walk, addr: u64, count: usize) -> Walk
+    requires { ⌜ addr + 24 + 8 * count ≤ length (now file) ⌝ }
+    requires { ⌜ w .links * pair-words + count * pair-words ≤ length (now links) ⌝ }
+    ensures { λ r. ⌜ Linked w r (map (kinds.make-link (now (file .entry))) (words (now (file .entry)) (addr + 24) count)) (now (links .entry)) (now (links .exit)) ⌝ }
+{
+    let mut i = 0;
+    let mut on = w;
+    while i < count {
+        let target = DataListBlock::data_link(file, addr, i as u64);
+        let found = make_link(file, target);
+        on = push_link(links, on, target, found);
+        i += 1;
+    }
+    on
+}
+
+// Lists a data list that was read: as `list_block` does, with the targets as they stand in the recording.
+fn list_links(
+    file: &[u8],
+    blocks: &mut [u64],
+    links: &mut [u64],
+    w: Walk,
+    block: Block,
+    count: usize,
+) -> Walked
+    requires { ⌜ Counted w (now links) ⌝ }
+    requires { ⌜ block .offset + 24 + 8 * count ≤ length (now file) ⌝ }
+    ensures { λ r. ⌜ ((k : spec.Kind) (h : kinds.RecordLayout) (o v : List ℕ) → Tells k h o block (words (now (file .entry)) (block .offset + 24) count) → Within w v (now (blocks .entry)) (now (links .entry)) → Met w r v (now (blocks .exit)) (now (links .exit)) (state-of (walk.after-reading k (block .offset) h (held w v (now (blocks .entry)) (now (links .entry))) o (map (kinds.make-link (now (file .entry))) (words (now (file .entry)) (block .offset + 24) count)) (spec.ok tt)))) ⌝ }
+{
+    let r1 = check_links(file, w, block.offset, count);
+    let Walked::On(_) = r1 else {
+        return r1;
+    };
+    let r2 = check_room(blocks, links, w, block.offset, block.size, count);
+    let Walked::On(_) = r2 else {
+        return r2;
+    };
+    let row = row_of(w, block, count);
+    let w1 = push_row(blocks, w, row);
+    let w2 = push_list(file, links, w1, block.offset, count);
+    Walked::On(w2)
+}
+
+// Reads a data list and lists it.
+fn open_list(file: &[u8], blocks: &mut [u64], links: &mut [u64], w: Walk, addr: u64) -> Entered
+    requires { ⌜ Counted w (now links) ⌝ }
+    ensures { λ r. ⌜ ((v : List ℕ) → Within w v (now (blocks .entry)) (now (links .entry)) → Opens w r (now (file .entry)) addr v (now (blocks .exit)) (now (links .exit)) (spec.reason (open-list addr (now (file .entry)) (held w v (now (blocks .entry)) (now (links .entry)))))) ⌝ }
+{
+    match DataListBlock::parse(file, addr) {
+        DataListBlockRead::Refused(e) => Entered::Refused(e),
+        DataListBlockRead::Block(list) => {
+            let count = list.links_nr as usize;
+            let block = Block {
+                offset: addr,
+                size: list.block_len,
+                mark: wide(read_u32(file, addr as usize)),
+                kind: DL,
+                record_size: 0,
+                invalidation_bytes: 0,
+                record_id_len: 0,
+            };
+            match list_links(file, blocks, links, w, block, count) {
+                Walked::Refused(e) => Entered::Refused(e),
+                Walked::On(w1) => Entered::List { w: w1, count },
+            }
+        }
+    }
+}
+
+// All of a data list but what its links lead to; `depth` lists may still be entered.
+pub fn enter_list(
+    file: &[u8],
+    visited: &mut [u64],
+    blocks: &mut [u64],
+    links: &mut [u64],
+    w: Walk,
+    addr: u64,
+    depth: usize,
+) -> Entered
+    requires { ⌜ Within w (now visited) (now blocks) (now links) ⌝ }
+    ensures { λ r. ⌜ Opens w r (now (file .entry)) addr (now (visited .exit)) (now (blocks .exit)) (now (links .exit)) (spec.reason (enter-list depth addr (now (file .entry)) (held w (now (visited .entry)) (now (blocks .entry)) (now (links .entry))))) ⌝ }
+    ensures { λ r. ⌜ Deep r depth ⌝ }
+{
+    if seen(visited, w.visited, addr) {
+        return Entered::Seen(w);
+    }
+    if depth == 0 {
+        return Entered::Refused(MdfError::TooDeep {
+            place: addr,
+            limit: MAX_LISTS,
+        });
+    }
+    match visit(visited, w, addr) {
+        Walked::Refused(e) => Entered::Refused(e),
+        Walked::On(w1) => open_list(file, blocks, links, w1, addr),
+    }
+}
+
+// The answer where no list was entered.
+fn not_entered(r: Entered) -> Walked
+    ensures { λ x. ⌜ x ≡ handed-up r ⌝ }
+{
+    match r {
+        Entered::Seen(w) => Walked::On(w),
+        Entered::List { w, count: _ } => Walked::On(w),
+        Entered::Refused(e) => Walked::Refused(e),
+    }
+}
+
+// What a data link leads to; `depth` lists may still be entered.
+pub fn walk_data_region(
+    file: &[u8],
+    visited: &mut [u64],
+    blocks: &mut [u64],
+    links: &mut [u64],
+    w: Walk,
+    target: u64,
+    found: u64,
+    record_size: u64,
+    invalidation_bytes: u64,
+    record_id_len: u64,
+    depth: usize,
+) -> Walked
+    requires { ⌜ Within w (now visited) (now blocks) (now links) ⌝ }
+    ensures { λ r. ⌜ Met w r (now (visited .exit)) (now (blocks .exit)) (now (links .exit)) (said (walk.walk-data-region depth (layout «record_size» «invalidation_bytes» «record_id_len») (record { target = target; found = found }) (now (file .entry)) (held w (now (visited .entry)) (now (blocks .entry)) (now (links .entry))))) ⌝ }
+{
+    // "##DL"
+    if found == 0x4c44_2324 {
+        return walk_data_list(
+            file,
+            visited,
+            blocks,
+            links,
+            w,
+            target,
+            record_size,
+            invalidation_bytes,
+            record_id_len,
+            depth,
+        );
+    }
+    walk_data_block(
+        file,
+        visited,
+        blocks,
+        links,
+        w,
+        target,
+        found,
+        record_size,
+        invalidation_bytes,
+        record_id_len,
+    )
+}
+
+// A data list and what its links lead to: the data links first, then next.
+fn walk_data_list(
+    file: &[u8],
+    visited: &mut [u64],
+    blocks: &mut [u64],
+    links: &mut [u64],
+    w: Walk,
+    addr: u64,
+    record_size: u64,
+    invalidation_bytes: u64,
+    record_id_len: u64,
+    depth: usize,
+) -> Walked
+    requires { ⌜ Within w (now visited) (now blocks) (now links) ⌝ }
+    ensures { λ r. ⌜ Met w r (now (visited .exit)) (now (blocks .exit)) (now (links .exit)) (said (data-list depth (layout «record_size» «invalidation_bytes» «record_id_len») addr (now (file .entry)) (held w (now (visited .entry)) (now (blocks .entry)) (now (links .entry))))) ⌝ }
+{
+    let entered = enter_list(file, visited, blocks, links, w, addr, depth);
+    let Entered::List { w: w1, count } = entered else {
+        return not_entered(entered);
+    };
+    let mut i = 1;
+    let mut on = w1;
+    while i < count {
+        let target = DataListBlock::data_link(file, addr, i as u64);
+        let found = make_link(file, target);
+        let r = walk_data_region(
+            file,
+            visited,
+            blocks,
+            links,
+            on,
+            target,
+            found,
+            record_size,
+            invalidation_bytes,
+            record_id_len,
+            depth - 1,
+        );
+        let Walked::On(w2) = r else {
+            return r;
+        };
+        on = w2;
+        i += 1;
+    }
+    let next = DataListBlock::data_link(file, addr, 0);
+    let found = make_link(file, next);
+    walk_data_region(
+        file,
+        visited,
+        blocks,
+        links,
+        on,
+        next,
+        found,
+        record_size,
+        invalidation_bytes,
+        record_id_len,
+        depth - 1,
+    )
+}

@@ -1,0 +1,2 @@
+-- What the walk's counts and lent tables hold. No file here holds a proof.
+pub mod Held

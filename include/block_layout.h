@@ -1,0 +1,51 @@
+/*
+ * The entries of the MDF4 block layout, for C and C++: link libblock_layout_c.a (x86-64).
+ *
+ * A lent table or the recording is passed as a pointer and the number of its words or bytes. No pointer may be null, not even one
+ * with the number 0, each must be aligned for its words, and nothing lent may overlap anything else that is passed.
+ * An entry reads the recording and writes the tables and the answer only, whatever the recording holds.
+ *
+ * Rows: a word of the visited table; 12 words of the block table (offset, end, size, mark, kind, index, first link, link count,
+ * record size, invalidation bytes, record id length, tree mark); 2 words of the link table (target, then 0 or 1 + the mark found
+ * there); 2 words of the gap table (start, end). Words not in use are 0, and a refusal leaves every table 0.
+ */
+#ifndef BLOCK_LAYOUT_H
+#define BLOCK_LAYOUT_H
+
+#include <stddef.h>
+#include <stdint.h>
+
+#ifdef __cplusplus
+extern "C" {
+#endif
+
+/*
+ * The words of an answer. An `answer` with fewer words takes those that fit; words behind the ninth are left as they were.
+ * A refusal has its number (1 to 15), place, a and b, then five zeros.
+ */
+enum {
+    BLOCK_LAYOUT_NUMBER = 0, /* 0: accepted */
+    BLOCK_LAYOUT_PLACE = 1,
+    BLOCK_LAYOUT_A = 2,
+    BLOCK_LAYOUT_B = 3,
+    BLOCK_LAYOUT_VISITED = 4, /* rows in use of each table */
+    BLOCK_LAYOUT_BLOCKS = 5,
+    BLOCK_LAYOUT_LINKS = 6,
+    BLOCK_LAYOUT_GAPS = 7,
+    BLOCK_LAYOUT_BYTES = 8, /* bytes in use of the output */
+    BLOCK_LAYOUT_ANSWER_WORDS = 9
+};
+
+/* The layout: blocks by offset, links in the order of the walk, gaps. No output: its bytes are 0. */
+void block_layout_c_layout(const uint8_t *data, size_t data_len,
+                           uint64_t *visited, size_t visited_len,
+                           uint64_t *blocks, size_t blocks_len,
+                           uint64_t *links, size_t links_len,
+                           uint64_t *gaps, size_t gaps_len,
+                           uint64_t *answer, size_t answer_len);
+
+#ifdef __cplusplus
+}
+#endif
+
+#endif
