@@ -3,11 +3,11 @@
  *
  * A lent table or the recording is passed as a pointer and the number of its words or bytes. No pointer may be null, not even one
  * with the number 0, each must be aligned for its words, and nothing lent may overlap anything else that is passed.
- * An entry reads the recording and writes the tables and the answer only, whatever the recording holds.
+ * An entry reads the recording and writes the tables, the output and the answer only, whatever the recording holds.
  *
  * Rows: a word of the visited table; 12 words of the block table (offset, end, size, mark, kind, index, first link, link count,
  * record size, invalidation bytes, record id length, tree mark); 2 words of the link table (target, then 0 or 1 + the mark found
- * there); 2 words of the gap table (start, end). Words not in use are 0, and a refusal leaves every table 0.
+ * there); 2 words of the gap table (start, end). Words and bytes not in use are 0, and a refusal leaves every table and the output 0.
  */
 #ifndef BLOCK_LAYOUT_H
 #define BLOCK_LAYOUT_H
@@ -43,6 +43,37 @@ void block_layout_c_layout(const uint8_t *data, size_t data_len,
                            uint64_t *links, size_t links_len,
                            uint64_t *gaps, size_t gaps_len,
                            uint64_t *answer, size_t answer_len);
+
+/* The listing: its text in `out`. */
+void block_layout_c_text(const uint8_t *data, size_t data_len,
+                         uint64_t *visited, size_t visited_len,
+                         uint64_t *blocks, size_t blocks_len,
+                         uint64_t *links, size_t links_len,
+                         uint64_t *gaps, size_t gaps_len,
+                         uint8_t *out, size_t out_len,
+                         uint64_t *answer, size_t answer_len);
+
+/* The tree: its text in `out`, and the tree mark 1 in each block row that was printed. */
+void block_layout_c_tree(const uint8_t *data, size_t data_len,
+                         uint64_t *visited, size_t visited_len,
+                         uint64_t *blocks, size_t blocks_len,
+                         uint64_t *links, size_t links_len,
+                         uint64_t *gaps, size_t gaps_len,
+                         uint8_t *out, size_t out_len,
+                         uint64_t *answer, size_t answer_len);
+
+/*
+ * The clear list, in `out`. `scratch` takes rows of 2 words, one for each listed block, for each nonzero link with four bytes inside
+ * the recording and for each channel name that is read; it ends 0 always.
+ */
+void block_layout_c_clear(const uint8_t *data, size_t data_len,
+                          uint64_t *visited, size_t visited_len,
+                          uint64_t *blocks, size_t blocks_len,
+                          uint64_t *links, size_t links_len,
+                          uint64_t *gaps, size_t gaps_len,
+                          uint64_t *scratch, size_t scratch_len,
+                          uint8_t *out, size_t out_len,
+                          uint64_t *answer, size_t answer_len);
 
 #ifdef __cplusplus
 }

@@ -37,7 +37,7 @@ said-err (ok p) x e = never e
 said-err (err z) x e = let q : z .why ≡ x = cc in ap (λ (y : Refusal). err y) q
 
 -- words and zeros behind them
-filled-is : (k : ℕ) (xs t : List ℕ) → t ≡ xs ++ replicate k 0 → t ≡ filled (length t) xs
+pub filled-is : (k : ℕ) (xs t : List ℕ) → t ≡ xs ++ replicate k 0 → t ≡ filled (length t) xs
 unfolding filled
 filled-is k xs t e =
     let n : k ≡ length t - length xs = omega (arith, ap length e, length-append xs (replicate {A = ℕ} k 0), length-replicate {A = ℕ} k 0) in
@@ -149,14 +149,16 @@ module _ {v b l g v1 b1 l1 g1 : List ℕ} (z : Zeroed v b l g v1 b1 l1 g1) where
       stands kv kb ko kl q = record {
         layout = shown;
         is = accepted q;
-        visited = m .within .visited .is ∙ ap (λ (j : ℕ). filled j (take (w .visited) v2)) (kv ∙ zeros-long (length v) (z .visited));
-        blocks = filled-is (length b2 - length (concat-map (row-words []) rows)) (concat-map (row-words []) (sort rows)) b3 ordered ∙ ap (λ (j : ℕ). filled j (concat-map (row-words []) (sort rows))) (ko ∙ kb ∙ zeros-long (length b) (z .blocks));
-        links = m .within .links .is ∙ ap (λ (j : ℕ). filled j (concat-map link-words (held-links (w .links) l2))) (kl ∙ zeros-long (length l) (z .links));
-        gaps = gaps-filled q;
-        visited-count = sym (length-take-le (w .visited) v2 (m .within .visited .fits));
-        blocks-count = sorted-count;
-        links-count = sym (links-length (w .links) l2);
-        gaps-count = count-is;
+        fills = record {
+          visited = m .within .visited .is ∙ ap (λ (j : ℕ). filled j (take (w .visited) v2)) (kv ∙ zeros-long (length v) (z .visited));
+          blocks = filled-is (length b2 - length (concat-map (row-words []) rows)) (concat-map (row-words []) (sort rows)) b3 ordered ∙ ap (λ (j : ℕ). filled j (concat-map (row-words []) (sort rows))) (ko ∙ kb ∙ zeros-long (length b) (z .blocks));
+          links = m .within .links .is ∙ ap (λ (j : ℕ). filled j (concat-map link-words (held-links (w .links) l2))) (kl ∙ zeros-long (length l) (z .links));
+          gaps = gaps-filled q;
+          visited-count = sym (length-take-le (w .visited) v2 (m .within .visited .fits));
+          blocks-count = sorted-count;
+          links-count = sym (links-length (w .links) l2);
+          gaps-count = count-is;
+        };
         visited-fit = m .within .visited .fits;
         blocks-fit = omega (arith, m .within .rows .fits);
         links-fit = m .within .links .fits;

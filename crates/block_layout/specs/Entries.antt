@@ -37,18 +37,30 @@ pub record Zeroed (v b l g v' b' l' g' : List ℕ) : Type 0 where
   pub links : l' ≡ replicate (length l) 0
   pub gaps : g' ≡ replicate (length g) 0
 
--- the recording r has a layout, it stands in the tables v, b, l and g, and nv, nb, nl and ng rows of them are in use
+-- the layout y fills the tables v, b, l and g, of which nv, nb, nl and ng rows are in use; p: the offsets that its tree has printed
+pub record Filled (n : Lent) (y : Layout) (p : List ℕ) (nv nb nl ng : ℕ) (v b l g : List ℕ) : Type 0 where
+  pub visited : v ≡ filled (n .visited) (y .state .visited)
+  pub blocks : b ≡ filled (n .blocks) (concat-map (row-words p) (y .blocks))
+  pub links : l ≡ filled (n .links) (concat-map link-words (y .state .links))
+  pub gaps : g ≡ filled (n .gaps) (concat-map range-words (y .gaps))
+  pub visited-count : nv ≡ length (y .state .visited)
+  pub blocks-count : nb ≡ length (y .blocks)
+  pub links-count : nl ≡ length (y .state .links)
+  pub gaps-count : ng ≡ length (y .gaps)
+
+-- the tables and the output are as long as those lent
+pub record Long (n : Lent) (v b l g o : List ℕ) : Type 0 where
+  pub visited : length v ≡ n .visited
+  pub blocks : length b ≡ n .blocks
+  pub links : length l ≡ n .links
+  pub gaps : length g ≡ n .gaps
+  pub out : length o ≡ n .out
+
+-- the recording r has a layout, and it stands in the tables
 pub record Stands (n : Lent) (r : List ℕ) (nv nb nl ng : ℕ) (v b l g : List ℕ) : Type 0 where
   pub layout : Layout
   pub is : laid n r ≡ ok layout
-  pub visited : v ≡ filled (n .visited) (layout .state .visited)
-  pub blocks : b ≡ filled (n .blocks) (concat-map (row-words []) (layout .blocks))
-  pub links : l ≡ filled (n .links) (concat-map link-words (layout .state .links))
-  pub gaps : g ≡ filled (n .gaps) (concat-map range-words (layout .gaps))
-  pub visited-count : nv ≡ length (layout .state .visited)
-  pub blocks-count : nb ≡ length (layout .blocks)
-  pub links-count : nl ≡ length (layout .state .links)
-  pub gaps-count : ng ≡ length (layout .gaps)
+  pub fills : Filled n layout [] nv nb nl ng v b l g
   pub visited-fit : nv ≤ length v
   pub blocks-fit : nb * block-row-words ≤ length b
   pub links-fit : nl * pair-words ≤ length l
@@ -61,3 +73,11 @@ Lays n r (laid-variants.Refused e) v b l g = laid n r ≡ err (numbers e)
 -- the first part of an entry answers x: the layout stands in the tables; or the definition's refusal, and the tables are left free
 pub record LaidMet (n : Lent) (r : List ℕ) (x : Laid) (v b l g : List ℕ) : Type 0 where
   pub is : Lays n r x v b l g
+
+-- the bytes answered are at most k
+abbrev pub Within : Answer → ℕ → Type 0
+Within (answer-variants.Accepted v b l g n) k = n ≤ k
+Within (answer-variants.Refused e) k = Unit
+
+pub record Fits (a : Answer) (k : ℕ) : Type 0 where
+  pub is : Within a k

@@ -2,7 +2,8 @@
 // include/block_layout.h declares them.
 ghost use mathlib.Core.Path.{_≡_};
 ghost use mathlib.Core.List.{[]};
-ghost use Rattle.mdf4.specs.Answers.{layout-exit};
+ghost use lib.ListN.{length};
+ghost use Rattle.mdf4.specs.Answers.{layout-exit, to-text-exit, to-tree-exit, clear-list-exit};
 ghost use Rattle.block_layout.specs.Entries.{lent, answered, exit-with};
 ghost use Rattle.block_layout_c.specs.Words.{answer-words, stored};
 use block_layout::Answer;
@@ -69,5 +70,60 @@ pub extern "C" fn block_layout_c_layout(
     ensures answer { λ r. ⌜ now (answer .exit) ≡ stored (answer-words (layout-exit (lent (now (visited .entry)) (now (blocks .entry)) (now (links .entry)) (now (gaps .entry)) 0 0) (now («data» .entry)) .answer)) (now (answer .entry)) ⌝ }
 {
     let r = block_layout::layout(data, visited, blocks, links, gaps);
+    store_answer(answer, r);
+}
+
+// The entry `to_text`.
+#[no_mangle]
+pub extern "C" fn block_layout_c_text(
+    data: &[u8],
+    visited: &mut [u64],
+    blocks: &mut [u64],
+    links: &mut [u64],
+    gaps: &mut [u64],
+    out: &mut [u8],
+    answer: &mut [u64],
+)
+    ensures tables { λ r. ⌜ exit-with (to-text-exit (lent (now (visited .entry)) (now (blocks .entry)) (now (links .entry)) (now (gaps .entry)) 0 (length (now (out .entry)))) (now («data» .entry)) .answer) (now (visited .exit)) (now (blocks .exit)) (now (links .exit)) (now (gaps .exit)) [] (now (out .exit)) ≡ to-text-exit (lent (now (visited .entry)) (now (blocks .entry)) (now (links .entry)) (now (gaps .entry)) 0 (length (now (out .entry)))) (now («data» .entry)) ⌝ }
+    ensures answer { λ r. ⌜ now (answer .exit) ≡ stored (answer-words (to-text-exit (lent (now (visited .entry)) (now (blocks .entry)) (now (links .entry)) (now (gaps .entry)) 0 (length (now (out .entry)))) (now («data» .entry)) .answer)) (now (answer .entry)) ⌝ }
+{
+    let r = block_layout::to_text(data, visited, blocks, links, gaps, out);
+    store_answer(answer, r);
+}
+
+// The entry `to_tree`.
+#[no_mangle]
+pub extern "C" fn block_layout_c_tree(
+    data: &[u8],
+    visited: &mut [u64],
+    blocks: &mut [u64],
+    links: &mut [u64],
+    gaps: &mut [u64],
+    out: &mut [u8],
+    answer: &mut [u64],
+)
+    ensures tables { λ r. ⌜ exit-with (to-tree-exit (lent (now (visited .entry)) (now (blocks .entry)) (now (links .entry)) (now (gaps .entry)) 0 (length (now (out .entry)))) (now («data» .entry)) .answer) (now (visited .exit)) (now (blocks .exit)) (now (links .exit)) (now (gaps .exit)) [] (now (out .exit)) ≡ to-tree-exit (lent (now (visited .entry)) (now (blocks .entry)) (now (links .entry)) (now (gaps .entry)) 0 (length (now (out .entry)))) (now («data» .entry)) ⌝ }
+    ensures answer { λ r. ⌜ now (answer .exit) ≡ stored (answer-words (to-tree-exit (lent (now (visited .entry)) (now (blocks .entry)) (now (links .entry)) (now (gaps .entry)) 0 (length (now (out .entry)))) (now («data» .entry)) .answer)) (now (answer .entry)) ⌝ }
+{
+    let r = block_layout::to_tree(data, visited, blocks, links, gaps, out);
+    store_answer(answer, r);
+}
+
+// The entry `clear_list`.
+#[no_mangle]
+pub extern "C" fn block_layout_c_clear(
+    data: &[u8],
+    visited: &mut [u64],
+    blocks: &mut [u64],
+    links: &mut [u64],
+    gaps: &mut [u64],
+    scratch: &mut [u64],
+    out: &mut [u8],
+    answer: &mut [u64],
+)
+    ensures tables { λ r. ⌜ exit-with (clear-list-exit (lent (now (visited .entry)) (now (blocks .entry)) (now (links .entry)) (now (gaps .entry)) (length (now (scratch .entry))) (length (now (out .entry)))) (now («data» .entry)) .answer) (now (visited .exit)) (now (blocks .exit)) (now (links .exit)) (now (gaps .exit)) (now (scratch .exit)) (now (out .exit)) ≡ clear-list-exit (lent (now (visited .entry)) (now (blocks .entry)) (now (links .entry)) (now (gaps .entry)) (length (now (scratch .entry))) (length (now (out .entry)))) (now («data» .entry)) ⌝ }
+    ensures answer { λ r. ⌜ now (answer .exit) ≡ stored (answer-words (clear-list-exit (lent (now (visited .entry)) (now (blocks .entry)) (now (links .entry)) (now (gaps .entry)) (length (now (scratch .entry))) (length (now (out .entry)))) (now («data» .entry)) .answer)) (now (answer .entry)) ⌝ }
+{
+    let r = block_layout::clear_list(data, visited, blocks, links, gaps, scratch, out);
     store_answer(answer, r);
 }

@@ -1,5 +1,6 @@
 -- `layout` meets its contract: the layout stands in the tables, or they are zeroed again. Assumes nothing.
-use mathlib.Core.Path.{sym, _∙_}
+use mathlib.Core.Path.{refl, sym, _∙_}
+use mathlib.Core.List.{[]}
 use borrow.Author.Needs.{needs}
 use Rattle.block_layout.specs.Entries.{lent}
 use Rattle.block_layout.proofs.Exits.{laid-tables, laid-refused, refused-exit, layout-accepted, layout-refused}
@@ -17,7 +18,7 @@ returns-2 c =
     let a = c .before .before .before .before .before .before .before .before .before .before .before .before .before .before .before .before .before .before .before .before .before .before .before .before .before .before .before .before .before .before .before .before .before .before .args in
     let n = lent (a .visited .now) (a .blocks .now) (a .links .now) (a .gaps .now) 0 0 in
     let k = c .before .before .before .before .before .before .before .before .before .before .before .before .before .before .before .before .before .before .before .before .before .before .before .before .lay .kept .1 in
-    refused-exit (a .visited .now) (a .blocks .now) (a .links .now) (a .gaps .now) 0 0 _ (c .before .before .before .before .before .before .before .before .zero-tables .ensures) (k .0) (k .1 .0) (k .1 .1 .0) (k .1 .1 .1 .0)
+    refused-exit n {o = []} _ (c .before .before .before .before .before .before .before .before .zero-tables .ensures) refl (record { visited = k .0; blocks = k .1 .0; links = k .1 .1 .0; gaps = k .1 .1 .1 .0; out = refl })
     ∙ sym (layout-refused (a .visited .now) (a .blocks .now) (a .links .now) (a .gaps .now) (a .«data» .now) _ (laid-refused {n = n} (c .before .before .before .before .before .before .before .before .before .before .before .before .before .before .laid2 .given .1) (c .before .before .before .before .before .before .before .before .before .before .before .before .before .before .before .before .before .before .before .before .before .before .before .before .lay .ensures 0 0)))
 
 pub layout-spec : {M : Type 1} → statement M

@@ -42,7 +42,7 @@ same-length c = search needs
 
 -- src/extras.rt:97:1
 returns : tie.Need-returns
-returns c = search (needs, records-wrote)
+returns c = records-wrote (c .before .before .before .before .before .before .before .before .before .before .before .before .before .before .args .block) (c .before .before .before .before .before .before .before .before .before .before .before .before .payload .ensures) (c .before .before .before .before .before .before .before .put-format .ensures) (c .before .before .put-trailing .ensures)
 
 pub put-records-spec : {M : Type 1} → statement M
 put-records-spec =

@@ -2,14 +2,14 @@
 use native.Mathlib.Omega.{arith}
 use Prim.Native.Nat.{_≤_, _-_}
 use lib.ListN.{length}
-use Rattle.replay.proofs.same_words.Statement.{statement}
-use Rattle.replay.proofs.same_words.Tie as tie
+use Rattle.replay.proofs.compare.same_words.Statement.{statement}
+use Rattle.replay.proofs.compare.same_words.Tie as tie
 
 abbrev Inv-loop : tie.InvT-loop
-Inv-loop t part i₀ i = i ≤ length t
+Inv-loop t part marked i₀ i = i ≤ length t
 
 abbrev μ-loop : tie.MeasureT-loop
-μ-loop t part i₀ i = length t - i
+μ-loop t part marked i₀ i = length t - i
 
 returns : tie.Need-returns Inv-loop μ-loop
 returns c = tt
@@ -23,8 +23,8 @@ mul-if2 c = omega arith
 shared-slice-read-if2 : tie.Need-shared-slice-read-if2 Inv-loop μ-loop
 shared-slice-read-if2 c = omega arith
 
-word-requires : tie.Need-word-requires Inv-loop μ-loop
-word-requires c κs = tt
+row-word-requires : tie.Need-row-word-requires Inv-loop μ-loop
+row-word-requires c κs = tt
 
 returns-2 : tie.Need-returns-2 Inv-loop μ-loop
 returns-2 c = tt
@@ -51,7 +51,7 @@ same-words-spec =
     loop-holds
     mul-if2
     shared-slice-read-if2
-    word-requires
+    row-word-requires
     returns-2
     add-i
     loop-less

@@ -2,8 +2,8 @@
 use native.Mathlib.Omega.{arith}
 use Prim.Native.Nat.{_≤_, _-_}
 use lib.ListN.{length}
-use Rattle.replay.proofs.all_zero.Statement.{statement}
-use Rattle.replay.proofs.all_zero.Tie as tie
+use Rattle.replay.proofs.compare.all_zero.Statement.{statement}
+use Rattle.replay.proofs.compare.all_zero.Tie as tie
 
 abbrev Inv-loop : tie.InvT-loop
 Inv-loop t i₀ i = i ≤ length t
