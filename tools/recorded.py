@@ -17,8 +17,8 @@ use mathlib.Core.List.{List, [], _∷_, _++_}
 use Prim.Native.Nat.{ℕ}
 use lib.ListN.{replicate}
 use Rattle.fmt.specs.Text.{ascii}
-use Rattle.mdf4.specs.Act.{ok, err, refusal}
-use Rattle.mdf4.specs.Answers.{Lent, Counts, Exit, layout-exit, to-text-exit, to-tree-exit, clear-list-exit}
+use Rattle.mdf4.specs.Act.{%s}
+use Rattle.mdf4.specs.Answers.{%s, layout-exit, to-text-exit, to-tree-exit, clear-list-exit}
 use Rattle.mdf4.proofs.Computed.{computed}
 
 abbrev lent : ℕ → ℕ → ℕ → ℕ → ℕ → ℕ → Lent
@@ -136,7 +136,8 @@ def clear_list(r, blocks, links, gaps):
 def module(name, r, base):
     rows = open(base + ".rows", "rb").read()
     w = struct.unpack("<%dQ" % (len(rows) // 8), rows)
-    out = "-- %s.mf4, as the Rust answers it.\n" % name + USES + (COUNTS if w[0] == 0 else "")
+    out = "-- %s.mf4, as the Rust answers it.\n" % name
+    out += USES % ("ok", "Lent, Counts") + COUNTS if w[0] == 0 else USES % ("err, refusal", "Lent")
     out += "recording : List ℕ\nrecording =\n%s\n\n" % content(r)
 
     def row(label, statement):

@@ -26,7 +26,7 @@ use Rattle.tables.specs.Gaps.{Pushed, Listed}
 use Rattle.tables.specs.Laid.{Printable}
 use Rattle.tables.specs.Rows.{held-rows, held-links}
 use Rattle.tables.proofs.Gapping.{listed, pushed-then}
-use Rattle.tables.proofs.Words.{ranges-back}
+use Rattle.mdf4.proofs.Demand3.{pairs-in}
 use Rattle.clear_ranges.specs.Covers.{row-cover, link-cover, covers}
 use Rattle.clear_ranges.specs.Lists.{ClearMet}
 use Rattle.clear_ranges.specs.declared.Cleared.the-variants.{Bytes, Refused}
@@ -150,7 +150,7 @@ module _ (r b l : List ℕ) (n m : ℕ) {s s1 s2 : List ℕ} {c1 c : ℕ}
     clear-at p h {s3} w =
         let ps : List Range = covers r (held-rows n b) (held-links m l) in
         let k : c ≡ length ps = filled .count in
-        let t : ranges-in 2 c s2 ≡ ps = rw (k, filled .held (omega arith)) (ranges-back ps _) in
+        let t : ranges-in 2 c s2 ≡ ps = rw (k, filled .held (omega arith)) (pairs-in ps _) in
         let a : All (Taken (length r)) (ranges-in 2 c s3) = sorted-all c s2 s3 w (Taken (length r)) (rw t (covers-taken p)) in
         let o : Ordered 0 (ranges-in 2 c s3) = sorted-ordered c s2 s3 w (all-map _ _ (λ q x. x .0) (ranges-in 2 c s3) a) in
         clear-is r (y .state) v (ranges-in 2 c s3) o a (λ j. sorted-inside c s2 s3 w j ∙ ap (inside j) t ∙ holds j) ∙ ap (clear-ranges r) (sym e3)

@@ -21,7 +21,7 @@ use Rattle.tables.specs.Rows.{held-rows, held-links, row-at, table}
 use Rattle.tables.proofs.Words.{rows-more}
 use Rattle.clear_ranges.specs.Covers.{cover, row-cover, target-cover, link-cover, covers}
 use Rattle.clear_ranges.proofs.Lengths.{read-least}
-use Rattle.clear_ranges.proofs.Filling.{concat-map-append, concat-map-snoc}
+use Rattle.mdf4.proofs.Lists.{concat-map-append, concat-map-snoc}
 
 -- sorting rows keeps what they give
 module _ (f : Row → List Range) where

@@ -1,7 +1,7 @@
 -- The scratch table filled row by row.
-use mathlib.Core.Path.{_≡_, refl, _∙_}
+use mathlib.Core.Path.{_≡_, refl}
 use mathlib.Core.Bool.{not, and-false}
-use mathlib.Core.List.{List, [], _∷_, _++_, append-assoc, append-nil}
+use mathlib.Core.List.{List, [], _∷_}
 use Prim.Native.Nat.{ℕ, _+_, _*_, _≤_, _<_}
 use native.Mathlib.Omega.{arith}
 use native.Mathlib.Numerals.{add-one}
@@ -11,6 +11,7 @@ use borrow.Author.Tests.{le-leb, lt-leb, ne-eqb}
 use Rattle.mdf4.specs.Bytes.{Range, num, concat-map}
 use Rattle.mdf4.specs.Kinds.{read-len, make-link}
 use Rattle.mdf4.specs.Reads.{link-ranges}
+use Rattle.mdf4.proofs.Lists.{concat-map-snoc}
 use Rattle.mdf4.proofs.Reading.{read-whole}
 use Rattle.mdf4.proofs.Good.{Readable}
 use Rattle.tables.specs.Gaps.{Pushed}
@@ -18,15 +19,6 @@ use Rattle.tables.specs.Rows.{kind-of, held-rows, held-links, row-at, link-at, 
 use Rattle.tables.proofs.Gapping.{pushed-none, pushed-then}
 use Rattle.tables.proofs.Words.{row-is, link-is, rows-more, links-more}
 use Rattle.clear_ranges.specs.Covers.{cover, row-cover, target-cover, link-cover}
-
-pub concat-map-append : {A B : Type 0} (f : A → List B) (xs ys : List A) → concat-map f (xs ++ ys) ≡ concat-map f xs ++ concat-map f ys
-unfolding concat-map
-concat-map-append f [] ys = refl
-concat-map-append f (x ∷ xs) ys = rw (concat-map-append f xs ys, append-assoc)
-
-pub concat-map-snoc : {A B : Type 0} (f : A → List B) (xs : List A) (x : A) → concat-map f (xs ++ x ∷ []) ≡ concat-map f xs ++ f x
-unfolding concat-map
-concat-map-snoc f xs x = concat-map-append f xs (x ∷ []) ∙ rw (append-nil (f x))
 
 -- nothing of a block or link is pushed
 pub pushed-no : {ps : List Range} (t : List ℕ) (c : ℕ) → ps ≡ [] → Pushed t c ps t c

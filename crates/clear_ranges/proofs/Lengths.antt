@@ -1,7 +1,7 @@
 -- Read lengths by a kind's number, as the code tests it.
-use mathlib.Core.Path.{_≡_, refl, sym, _∙_}
+use mathlib.Core.Path.{_≡_, sym, _∙_}
 use mathlib.Core.List.{List}
-use Prim.Native.Nat.{ℕ, zero, suc, _+_, _*_, _%_, _≤_, max}
+use Prim.Native.Nat.{ℕ, _+_, _*_, _%_, _≤_, max}
 use native.Mathlib.Omega.{arith}
 use borrow.Author.Tests.{eq-eqb, ne-eqb}
 use Rattle.mdf4.specs.Bytes.{bytes, num}
@@ -11,6 +11,7 @@ use Rattle.mdf4.specs.Reads.{listed-len}
 use Rattle.mdf4.proofs.Fields.{read-len-is}
 use Rattle.mdf4.proofs.Reading.{need-least}
 use Rattle.tables.specs.Rows.{kind-of}
+use Rattle.tables.proofs.Words.{by-number}
 
 pub read-least : (k : Kind) (r : List ℕ) (a : ℕ) → 24 ≤ read-len k r a
 unfolding read-len
@@ -56,21 +57,11 @@ module _ (r : List ℕ) (a k : ℕ) where
 -- the others: their header
 pub len-others : (r : List ℕ) (a k : ℕ) → (k ≡ 1 → ⊥) → (k ≡ 2 → ⊥) → (k ≡ 3 → ⊥) → (k ≡ 4 → ⊥) → (k ≡ 5 → ⊥) → (k ≡ 6 → ⊥) → (k ≡ 7 → ⊥) → (k ≡ 8 → ⊥) → (k ≡ 11 → ⊥)
     → read-len (kind-of k) r a ≡ 24
-unfolding kind-of listed-len
-len-others r a zero h1 h2 h3 h4 h5 h6 h7 h8 h11 = read-len-is r UD a
-len-others r a (suc zero) h1 h2 h3 h4 h5 h6 h7 h8 h11 = absurd (h1 refl)
-len-others r a (suc (suc zero)) h1 h2 h3 h4 h5 h6 h7 h8 h11 = absurd (h2 refl)
-len-others r a (suc (suc (suc zero))) h1 h2 h3 h4 h5 h6 h7 h8 h11 = absurd (h3 refl)
-len-others r a (suc (suc (suc (suc zero)))) h1 h2 h3 h4 h5 h6 h7 h8 h11 = absurd (h4 refl)
-len-others r a (suc (suc (suc (suc (suc zero))))) h1 h2 h3 h4 h5 h6 h7 h8 h11 = absurd (h5 refl)
-len-others r a (suc (suc (suc (suc (suc (suc zero)))))) h1 h2 h3 h4 h5 h6 h7 h8 h11 = absurd (h6 refl)
-len-others r a (suc (suc (suc (suc (suc (suc (suc zero))))))) h1 h2 h3 h4 h5 h6 h7 h8 h11 = absurd (h7 refl)
-len-others r a (suc (suc (suc (suc (suc (suc (suc (suc zero)))))))) h1 h2 h3 h4 h5 h6 h7 h8 h11 = absurd (h8 refl)
-len-others r a (suc (suc (suc (suc (suc (suc (suc (suc (suc zero))))))))) h1 h2 h3 h4 h5 h6 h7 h8 h11 = read-len-is r DT a
-len-others r a (suc (suc (suc (suc (suc (suc (suc (suc (suc (suc zero)))))))))) h1 h2 h3 h4 h5 h6 h7 h8 h11 = read-len-is r SD a
-len-others r a (suc (suc (suc (suc (suc (suc (suc (suc (suc (suc (suc zero))))))))))) h1 h2 h3 h4 h5 h6 h7 h8 h11 = absurd (h11 refl)
-len-others r a (suc (suc (suc (suc (suc (suc (suc (suc (suc (suc (suc (suc zero)))))))))))) h1 h2 h3 h4 h5 h6 h7 h8 h11 = read-len-is r UT a
-len-others r a (suc (suc (suc (suc (suc (suc (suc (suc (suc (suc (suc (suc (suc n))))))))))))) h1 h2 h3 h4 h5 h6 h7 h8 h11 = read-len-is r UD a
+unfolding listed-len
+len-others r a k h1 h2 h3 h4 h5 h6 h7 h8 h11 =
+    by-number (λ (x : Kind). read-len x r a ≡ 24) k (read-len-is r UD a)
+    (λ e. absurd (h1 e)) (λ e. absurd (h2 e)) (λ e. absurd (h3 e)) (λ e. absurd (h4 e)) (λ e. absurd (h5 e)) (λ e. absurd (h6 e))
+    (λ e. absurd (h7 e)) (λ e. absurd (h8 e)) (λ e. read-len-is r DT a) (λ e. read-len-is r SD a) (λ e. absurd (h11 e)) (λ e. read-len-is r UT a)
 
 -- a data list
 pub list-least : (r : List ℕ) (a : ℕ) → 32 + 8 * num r (a + 16) 8 ≤ read-len DL r a

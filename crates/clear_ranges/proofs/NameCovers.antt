@@ -2,17 +2,18 @@
 use mathlib.Core.Path.{_≡_, refl, _∙_}
 use mathlib.Core.Bool.{true, false, cond, and-false}
 use mathlib.Core.List.{List, [], _∷_}
-use Prim.Native.Nat.{ℕ, zero, suc, _+_, _≤_, _<_, max}
+use Prim.Native.Nat.{ℕ, _+_, _≤_, _<_, max}
 use native.Mathlib.Omega.{arith}
 use lib.Dec.{leb}
 use lib.ListN.{length}
 use borrow.Author.Tests.{le-leb, lt-leb, eq-eqb, ne-eqb}
 use Rattle.mdf4.specs.Bytes.{little, num, words}
-use Rattle.mdf4.specs.Act.{CN, TX}
+use Rattle.mdf4.specs.Act.{Kind, CN, TX}
 use Rattle.mdf4.specs.Kinds.{shape, is, read-len, block-len, make-link, leads-to, name-link, name-is-text, name-head, name-len}
 use Rattle.mdf4.specs.Reads.{name-ranges, named-ranges, links-at, listed-len}
 use Rattle.mdf4.proofs.Fields.{num-bytes, read-len-is}
 use Rattle.tables.specs.Rows.{kind-of}
+use Rattle.tables.proofs.Words.{by-number}
 use Rattle.clear_ranges.specs.Covers.{name-cover, cover}
 
 module _ (r : List ℕ) (t : ℕ) where
@@ -56,21 +57,11 @@ third r a =
     rw (e, num-bytes r a 160 40 8 (omega arith))
 
 not-channel : (k : ℕ) → (k ≡ 5 → ⊥) → is (kind-of k) CN ≡ false
-unfolding kind-of is shape
-not-channel zero h = refl
-not-channel (suc zero) h = refl
-not-channel (suc (suc zero)) h = refl
-not-channel (suc (suc (suc zero))) h = refl
-not-channel (suc (suc (suc (suc zero)))) h = refl
-not-channel (suc (suc (suc (suc (suc zero))))) h = absurd (h refl)
-not-channel (suc (suc (suc (suc (suc (suc zero)))))) h = refl
-not-channel (suc (suc (suc (suc (suc (suc (suc zero))))))) h = refl
-not-channel (suc (suc (suc (suc (suc (suc (suc (suc zero)))))))) h = refl
-not-channel (suc (suc (suc (suc (suc (suc (suc (suc (suc zero))))))))) h = refl
-not-channel (suc (suc (suc (suc (suc (suc (suc (suc (suc (suc zero)))))))))) h = refl
-not-channel (suc (suc (suc (suc (suc (suc (suc (suc (suc (suc (suc zero))))))))))) h = refl
-not-channel (suc (suc (suc (suc (suc (suc (suc (suc (suc (suc (suc (suc zero)))))))))))) h = refl
-not-channel (suc (suc (suc (suc (suc (suc (suc (suc (suc (suc (suc (suc (suc n))))))))))))) h = refl
+unfolding is shape
+not-channel k h =
+    by-number (λ (x : Kind). is x CN ≡ false) k refl
+    (λ e. refl) (λ e. refl) (λ e. refl) (λ e. refl) (λ e. absurd (h e)) (λ e. refl)
+    (λ e. refl) (λ e. refl) (λ e. refl) (λ e. refl) (λ e. refl) (λ e. refl)
 
 module _ (r : List ℕ) (off end k : ℕ) {x e : ℕ} (read : x ≡ read-len (kind-of k) r off) (behind : e ≡ max end (off + x)) where
   pub cover-channel : {t : ℕ} → k ≡ 5 → t ≡ num r (off + 40) 8 → cover r off end (kind-of k) ≡ (off, e) ∷ name-cover r t

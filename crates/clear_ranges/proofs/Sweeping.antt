@@ -12,7 +12,7 @@ use Rattle.mdf4.specs.Layout.{gap, compute-gaps}
 use Rattle.mdf4.specs.Clear.{le-bytes, range-bytes}
 use Rattle.mdf4.specs.Demand3.{ranges-in}
 use Rattle.tables.proofs.Gapping.{ranges-from, ranges-cons, ranges-none, ranges-all}
-use Rattle.clear_ranges.proofs.Filling.{concat-map-append}
+use Rattle.mdf4.proofs.Lists.{concat-map-append}
 
 -- one gap
 gap-some : {a b : ℕ} → a < b → gap a b ≡ (a, b) ∷ []

@@ -46,7 +46,7 @@ emit-room (b ∷ t) p (x ∷ r) h k =
     rw (step-room p r x b (omega arith))
     (emit-room t (p ++ (b ∷ [])) r (omega arith) (rw length-append (omega arith)) ∙ append-assoc p (b ∷ []) (t ++ drop (length t) r))
 
-drop-replicate : (k n v : ℕ) → drop k (replicate n v) ≡ replicate (n - k) v
+pub drop-replicate : (k n v : ℕ) → drop k (replicate n v) ≡ replicate (n - k) v
 drop-replicate zero n v = rw sub-zero
 drop-replicate (suc k) zero v = rw zero-sub
 drop-replicate (suc k) (suc n) v = rw suc-sub-suc (drop-replicate k n v)

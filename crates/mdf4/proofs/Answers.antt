@@ -355,3 +355,40 @@ pub history-mark-kept : clear-list-exit (lent 2 24 12 2 6 40) with-history .out
     ≡ ascii "CLR" ++ 1 ∷ 0 ∷ 0 ∷ 0 ∷ 0 ∷ 224 ∷ replicate 7 0 ++ 1 ∷ replicate 7 0 ++ 172 ∷ replicate 7 0 ++ 224 ∷ replicate 7 0
 unfolding computed identification header with-history
 history-mark-kept = refl
+
+-- an empty block cuts the gap, and its header is read: a text at 200 with block_len 0
+unfoldable pub empty-text : List ℕ
+empty-text = identification ++ header (replicate 40 0 ++ le-bytes 8 200) ++ replicate 32 7 ++ block (ascii "##TX") 0 0 [] ++ replicate 36 7
+
+pub empty-text-gaps : layout-exit (lent 3 36 12 4 0 0) empty-text .gaps ≡ 168 ∷ 200 ∷ 200 ∷ 260 ∷ []
+unfolding computed identification header empty-text
+empty-text-gaps = refl
+
+pub empty-text-clear : clear-list-exit (lent 3 36 12 4 8 56) empty-text .out
+    ≡ ascii "CLR" ++ 1 ∷ 0 ∷ 0 ∷ 0 ∷ 0 ∷ 4 ∷ 1 ∷ replicate 6 0 ++ 2 ∷ replicate 7 0
+    ++ 168 ∷ replicate 7 0 ++ 200 ∷ replicate 7 0 ++ 224 ∷ replicate 7 0 ++ 4 ∷ 1 ∷ replicate 6 0
+unfolding computed identification header empty-text
+empty-text-clear = refl
+
+-- extents that overlap: a text at 176 with block_len 48, inside which a data group at 200 begins
+unfoldable pub overlapping : List ℕ
+overlapping =
+    identification ++ header (le-bytes 8 200 ++ replicate 32 0 ++ le-bytes 8 176) ++ replicate 8 7 ++ block (ascii "##TX") 48 0 []
+    ++ block (ascii "##DG") 64 4 (replicate 40 0) ++ replicate 6 7
+
+pub overlapping-clear : clear-list-exit (lent 4 48 20 4 12 56) overlapping .out
+    ≡ ascii "CLR" ++ 1 ∷ 0 ∷ 0 ∷ 0 ∷ 0 ∷ 14 ∷ 1 ∷ replicate 6 0 ++ 2 ∷ replicate 7 0
+    ++ 168 ∷ replicate 7 0 ++ 176 ∷ replicate 7 0 ++ 8 ∷ 1 ∷ replicate 6 0 ++ 14 ∷ 1 ∷ replicate 6 0
+unfolding computed identification header overlapping
+overlapping-clear = refl
+
+-- an extent that passes the end leaves nothing clear behind its start: data at 240 with block_len 1,000 in 270 bytes
+unfoldable pub past-end : List ℕ
+past-end =
+    identification ++ header (le-bytes 8 168 ++ replicate 40 0) ++ block (ascii "##DG") 64 4 (replicate 16 0 ++ le-bytes 8 240 ++ replicate 16 0)
+    ++ replicate 8 7 ++ block (ascii "##DT") 1000 0 [] ++ replicate 6 7
+
+pub past-end-clear : clear-list-exit (lent 4 48 20 2 12 40) past-end .out
+    ≡ ascii "CLR" ++ 1 ∷ 0 ∷ 0 ∷ 0 ∷ 0 ∷ 14 ∷ 1 ∷ replicate 6 0 ++ 1 ∷ replicate 7 0 ++ 232 ∷ replicate 7 0 ++ 240 ∷ replicate 7 0
+unfolding computed identification header past-end
+past-end-clear = refl

@@ -1,7 +1,7 @@
 -- Demand 3 as statements about what a call of an entry answers and leaves in the lent memory. proofs/Demand3.antt proves them of
 -- each entry's definition.
 use mathlib.Core.Path.{_≡_}
-use mathlib.Core.Bool.{Bool, true, false, not, _&&_}
+use mathlib.Core.Bool.{true, false, not, _&&_}
 use mathlib.Core.List.{List, [], _∷_, map}
 use mathlib.Core.Logic.{_⊎_}
 use Prim.Native.Nat.{ℕ, zero, suc, _+_, _-_, _≤_, _<_}

@@ -7,8 +7,8 @@ use Prim.Native.String.{String}
 use lib.Dec.{leb, ltb, eqb}
 use lib.ListN.{length, getD, take}
 use Rattle.fmt.specs.Text.{ascii}
-use Rattle.mdf4.specs.Bytes.{bytes, little, num, words, Range}
-use Rattle.mdf4.specs.Act.{Refusal, refusal, Result, Out, ok, err, and-then, check, Kind, ID, HD, DG, CG, CN, SI, TX, MD, DT, SD, DL, UT, UD, Link}
+use Rattle.mdf4.specs.Bytes.{bytes, little, num, words}
+use Rattle.mdf4.specs.Act.{refusal, Out, ok, and-then, check, Kind, ID, HD, DG, CG, CN, SI, TX, MD, DT, SD, DL, UT, UD, Link}
 
 -- a mark: four bytes as a little-endian number
 abbrev pub mark-of : String → ℕ

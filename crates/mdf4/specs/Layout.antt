@@ -1,5 +1,5 @@
 -- The layout: the rows by offset and the gaps between them, as `FileLayout::from_bytes` makes them; refusal 13 of the gap table.
-use mathlib.Core.Bool.{Bool, true, false, cond}
+use mathlib.Core.Bool.{cond}
 use mathlib.Core.List.{List, [], _∷_, _++_, map}
 use Prim.Native.Nat.{ℕ, max}
 use lib.Dec.{leb, ltb}

@@ -1,6 +1,6 @@
 -- Document 01's read bytes, of a recording and the state of its walk: ranges, one for each row, one for each channel name that
 -- is read, one for each link with four bytes inside the file.
-use mathlib.Core.Bool.{Bool, true, false, cond}
+use mathlib.Core.Bool.{cond}
 use mathlib.Core.List.{List, [], _∷_, _++_, map}
 use Prim.Native.Nat.{ℕ, _+_, _*_, _%_, max}
 use lib.Dec.{eqb}

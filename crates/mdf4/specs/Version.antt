@@ -1,6 +1,6 @@
 -- The version of the identification block, of its eight bytes: refusals 3, 7 and 4.
 use mathlib.Core.List.{List, [], _∷_}
-use mathlib.Core.Bool.{Bool, true, false, cond}
+use mathlib.Core.Bool.{cond}
 use Prim.Native.Nat.{ℕ, _+_, _-_, _*_, _^_}
 use lib.Dec.{ltb, leb, eqb}
 use Rattle.utf8.specs.Utf8.{between, chunks, valid-utf8, bytes-all}

@@ -5,9 +5,8 @@ use mathlib.Core.List.{List, [], _∷_, _++_, map}
 use Prim.Native.Nat.{ℕ, zero, suc, _+_, _^_}
 use lib.Dec.{leb, ltb, eqb}
 use lib.ListN.{length, getD, drop}
-use Rattle.fmt.specs.Text.{ascii}
-use Rattle.mdf4.specs.Bytes.{bytes, little, num, bit}
-use Rattle.mdf4.specs.Act.{Refusal, refusal, Out, ok, and-then, check, Kind, ID, HD, DG, CG, CN, SI, TX, MD, DT, SD, DL, UT, UD}
+use Rattle.mdf4.specs.Bytes.{bytes, num, bit}
+use Rattle.mdf4.specs.Act.{refusal, Out, ok, and-then, check, Kind, ID, HD, DG, CG, CN, SI, TX, MD, DT, SD, DL, UT, UD}
 use Rattle.mdf4.specs.Act.{Row, Link, State, Limits, Act, choose, pure, stop, raise, _>>=_, _>>_, sized, once, seen, chain, each}
 use Rattle.mdf4.specs.Version.{version}
 use Rattle.mdf4.specs.Kinds.{shape, mark-of, is, read-block, mark-in, RecordLayout, no-records, cg-records, records-in, make-link, null, leads-to, name-ok}

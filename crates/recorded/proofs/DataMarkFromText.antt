@@ -4,8 +4,8 @@ use mathlib.Core.List.{List, [], _∷_, _++_}
 use Prim.Native.Nat.{ℕ}
 use lib.ListN.{replicate}
 use Rattle.fmt.specs.Text.{ascii}
-use Rattle.mdf4.specs.Act.{ok, err, refusal}
-use Rattle.mdf4.specs.Answers.{Lent, Counts, Exit, layout-exit, to-text-exit, to-tree-exit, clear-list-exit}
+use Rattle.mdf4.specs.Act.{ok}
+use Rattle.mdf4.specs.Answers.{Lent, Counts, layout-exit, to-text-exit, to-tree-exit, clear-list-exit}
 use Rattle.mdf4.proofs.Computed.{computed}
 
 abbrev lent : ℕ → ℕ → ℕ → ℕ → ℕ → ℕ → Lent

@@ -1,6 +1,6 @@
 -- Laws of the lent tables: words in use and zeros behind them, and rows of k words each. Assumes nothing.
 use mathlib.Core.Path.{_≡_, refl, sym, ap, ap₂, _∙_}
-use mathlib.Core.List.{List, [], _∷_, _++_, append-assoc, append-nil}
+use mathlib.Core.List.{List, [], _∷_, _++_, append-assoc}
 use Prim.Native.Nat.{ℕ, zero, suc, _+_, _-_, _*_, _≤_}
 use native.Mathlib.Omega.{arith}
 use native.Mathlib.Numerals.{add-one}
@@ -9,12 +9,9 @@ use lib.ListN.{length, take, drop, replicate, length-append}
 use lib.Seq.{sets, sets-eq, length-sets, take-add, drop-at, take-at, take-take, length-take-le, drop-append-add}
 use Rattle.mdf4.specs.Bytes.{concat-map}
 use Rattle.mdf4.specs.Answers.{filled}
+use Rattle.mdf4.proofs.Lists.{concat-map-snoc}
+use Rattle.fmt.proofs.Room.{drop-replicate}
 use Rattle.tables.specs.Rows.{table, Used}
-
-drop-replicate : (m p x : ℕ) → drop m (replicate p x) ≡ replicate (p - m) x
-drop-replicate zero p x = let e : p - 0 ≡ p = omega arith in rw e
-drop-replicate (suc m) zero x = let e : 0 - suc m ≡ 0 = omega arith in rw e
-drop-replicate (suc m) (suc p) x = let e : suc p - suc m ≡ p - m = omega arith in rw e (drop-replicate m p x)
 
 -- words stored behind those in use
 pub used-more : (n : ℕ) (ws vs t : List ℕ) → Used n ws t → length ws ≡ n → n + length vs ≤ length t → Used (n + length vs) (ws ++ vs) (sets t n vs)
@@ -78,11 +75,6 @@ module _ {A : Type 0} (k : ℕ) (f : List ℕ → A) where
     words-length [] = omega arith
     words-length (x ∷ xs) = length-append (g x) (concat-map g xs) ∙ omega (arith, sized x, words-length xs, suc-mul (length xs) k)
 
-    words-snoc : (xs : List A) (x : A) → concat-map g (xs ++ x ∷ []) ≡ concat-map g xs ++ g x
-    unfolding concat-map
-    words-snoc [] x = append-nil (g x)
-    words-snoc (y ∷ ys) x = rw (words-snoc ys x, append-assoc)
-
     module _ (n : ℕ) (t : List ℕ) (x : A) (room : n * k + k ≤ length t) where
       pub row-more : table k f (n + 1) (sets t (n * k) (g x)) ≡ table k f n t ++ x ∷ []
       row-more = table-snoc n t (g x) (sized x) room ∙ ap (λ (y : A). table k f n t ++ y ∷ []) (back x)
@@ -94,4 +86,4 @@ module _ {A : Type 0} (k : ℕ) (f : List ℕ → A) where
           let long : length ws ≡ n * k = words-length (table k f n t) ∙ ap (λ (j : ℕ). j * k) (table-length n t) in
           let next : n * k + length (g x) ≡ (n + 1) * k = rw (sized x, add-one, suc-mul) in
           let m : Used (n * k + length (g x)) (ws ++ g x) (sets t (n * k) (g x)) = used-more (n * k) ws (g x) t u long (rw sized room) in
-          rw (row-more, words-snoc) (rw next at m)
+          rw (row-more, concat-map-snoc) (rw next at m)

@@ -1,17 +1,15 @@
 -- Rows read off their words: where the words of a row stand, and rows that are read back as they were written. Assumes nothing.
 use mathlib.Core.Path.{_≡_, refl, sym, ap, ap₂, _∙_}
-use mathlib.Core.List.{List, [], _∷_, _++_, map, append-assoc}
-use Prim.Native.Nat.{ℕ, zero, suc, _+_, _*_, _≤_, _<_}
+use mathlib.Core.List.{List, [], _∷_, _++_, append-assoc}
+use Prim.Native.Nat.{ℕ, zero, suc, _+_, _*_, _<_}
 use native.Mathlib.Omega.{arith}
 use native.Mathlib.Nat.{suc-mul}
-use lib.ListN.{length, getD, take, drop, length-append, List·getD-append}
+use lib.ListN.{length, getD, take, drop, List·getD-append}
 use lib.Seq.{getD-take, getD-drop, getD-append-seam, take-at, drop-at, drop-drop}
-use Rattle.mdf4.specs.Bytes.{Range, concat-map}
+use Rattle.mdf4.specs.Bytes.{concat-map}
 use Rattle.mdf4.specs.Act.{Kind, ID, HD, DG, CG, CN, SI, TX, MD, DT, SD, DL, UT, UD, Row, Link}
 use Rattle.mdf4.specs.Kinds.{shape}
-use Rattle.mdf4.specs.Answers.{row-words, link-words, range-words, block-row-words, pair-words}
-use Rattle.mdf4.specs.Demand3.{ranges-in}
-use Rattle.mdf4.specs.Layout.{extent}
+use Rattle.mdf4.specs.Answers.{row-words, link-words, block-row-words, pair-words}
 use Rattle.tables.specs.Rows.{kind-of, row-of-words, link-of-words, table, held-rows, held-links, row-at, link-at}
 use Rattle.tables.proofs.Tables.{table-length}
 use Rattle.tables.proofs.Sorting.{Place, less, same, more, place}
@@ -116,6 +114,27 @@ pub links-length : (n : ℕ) (l : List ℕ) → length (held-links n l) ≡ n
 unfolding held-links
 links-length n l = table-length pair-words link-of-words n l
 
+-- what holds of the kind of each number, and of an unknown data block, holds of the kind of any number
+pub by-number : (P : Kind → Type 0) (n : ℕ) → P UD
+    → (n ≡ 1 → P ID) → (n ≡ 2 → P HD) → (n ≡ 3 → P DG) → (n ≡ 4 → P CG) → (n ≡ 5 → P CN) → (n ≡ 6 → P SI)
+    → (n ≡ 7 → P TX) → (n ≡ 8 → P MD) → (n ≡ 9 → P DT) → (n ≡ 10 → P SD) → (n ≡ 11 → P DL) → (n ≡ 12 → P UT)
+    → P (kind-of n)
+unfolding kind-of
+by-number P zero d p1 p2 p3 p4 p5 p6 p7 p8 p9 p10 p11 p12 = d
+by-number P (suc zero) d p1 p2 p3 p4 p5 p6 p7 p8 p9 p10 p11 p12 = p1 refl
+by-number P (suc (suc zero)) d p1 p2 p3 p4 p5 p6 p7 p8 p9 p10 p11 p12 = p2 refl
+by-number P (suc (suc (suc zero))) d p1 p2 p3 p4 p5 p6 p7 p8 p9 p10 p11 p12 = p3 refl
+by-number P (suc (suc (suc (suc zero)))) d p1 p2 p3 p4 p5 p6 p7 p8 p9 p10 p11 p12 = p4 refl
+by-number P (suc (suc (suc (suc (suc zero))))) d p1 p2 p3 p4 p5 p6 p7 p8 p9 p10 p11 p12 = p5 refl
+by-number P (suc (suc (suc (suc (suc (suc zero)))))) d p1 p2 p3 p4 p5 p6 p7 p8 p9 p10 p11 p12 = p6 refl
+by-number P (suc (suc (suc (suc (suc (suc (suc zero))))))) d p1 p2 p3 p4 p5 p6 p7 p8 p9 p10 p11 p12 = p7 refl
+by-number P (suc (suc (suc (suc (suc (suc (suc (suc zero)))))))) d p1 p2 p3 p4 p5 p6 p7 p8 p9 p10 p11 p12 = p8 refl
+by-number P (suc (suc (suc (suc (suc (suc (suc (suc (suc zero))))))))) d p1 p2 p3 p4 p5 p6 p7 p8 p9 p10 p11 p12 = p9 refl
+by-number P (suc (suc (suc (suc (suc (suc (suc (suc (suc (suc zero)))))))))) d p1 p2 p3 p4 p5 p6 p7 p8 p9 p10 p11 p12 = p10 refl
+by-number P (suc (suc (suc (suc (suc (suc (suc (suc (suc (suc (suc zero))))))))))) d p1 p2 p3 p4 p5 p6 p7 p8 p9 p10 p11 p12 = p11 refl
+by-number P (suc (suc (suc (suc (suc (suc (suc (suc (suc (suc (suc (suc zero)))))))))))) d p1 p2 p3 p4 p5 p6 p7 p8 p9 p10 p11 p12 = p12 refl
+by-number P (suc (suc (suc (suc (suc (suc (suc (suc (suc (suc (suc (suc (suc n))))))))))))) d p1 p2 p3 p4 p5 p6 p7 p8 p9 p10 p11 p12 = d
+
 -- a kind is that of its number, and a row is read off its own words, whatever its tree mark
 pub kind-again : (k : Kind) → kind-of (shape k .number) ≡ k
 unfolding kind-of shape
@@ -157,14 +176,3 @@ rows-back v ws z = table-back block-row-words row-of-words (row-words v) (row-si
 pub links-back : (ls : List Link) (z : List ℕ) → held-links (length ls) (concat-map link-words ls ++ z) ≡ ls
 unfolding held-links
 links-back ls z = table-back pair-words link-of-words link-words link-sized link-again ls z
-
-pub ranges-back : (gs : List Range) (z : List ℕ) → ranges-in pair-words (length gs) (concat-map range-words gs ++ z) ≡ gs
-unfolding ranges-in concat-map range-words
-ranges-back [] z = refl
-ranges-back (g ∷ gs) z = ap (λ (hs : List Range). g ∷ hs) (ranges-back gs z)
-
--- the extents that stand in the block table
-pub extents-back : (v : List ℕ) (ws : List Row) (z : List ℕ) → ranges-in block-row-words (length ws) (concat-map (row-words v) ws ++ z) ≡ map extent ws
-unfolding ranges-in concat-map row-words
-extents-back v [] z = refl
-extents-back v (w ∷ ws) z = ap (λ (hs : List Range). (w .off, w .end) ∷ hs) (extents-back v ws z)

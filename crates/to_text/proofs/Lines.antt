@@ -19,20 +19,16 @@ use Rattle.mdf4.specs.Layout.{Layout}
 use Rattle.mdf4.specs.Answers.{block-row-words, pair-words}
 use Rattle.mdf4.specs.Demand3.{ranges-in}
 use Rattle.mdf4.specs.Describe.{describe, extra-line, mark-text, mark-column}
+use Rattle.mdf4.proofs.Lists.{concat-map-snoc}
 use Rattle.mdf4.specs.Listing.{head-lines, row-lines, gap-line, gap-lines, link-line, link-lines, links-of, block-links, to-text}
 use Rattle.tables.specs.Rows.{kind-of, row-at, table, held-rows, held-links}
 use Rattle.tables.specs.Laid.{Shows, RowOk}
 use Rattle.tables.proofs.Words.{row-is, rows-more, rows-length, link-is, links-at, links-length}
 
-concat-snoc : {A : Type 0} (f : A → List ℕ) (xs : List A) (x : A) → concat-map f (xs ++ x ∷ []) ≡ concat-map f xs ++ f x
-unfolding concat-map
-concat-snoc f [] x = append-nil (f x)
-concat-snoc f (y ∷ xs) x = rw (concat-snoc f xs x) (sym (append-assoc (f y) (concat-map f xs) (f x)))
-
 -- what is written of row i behind what is written of the rows before it
 pub row-turn : (f : Row → List ℕ) (b : List ℕ) (i : ℕ) {out out′ out″ : List ℕ} {at at′ at″ : ℕ} → Wrote out at (concat-map f (held-rows i b)) out′ at′
     → Wrote out′ at′ (f (row-at i b)) out″ at″ → Wrote out at (concat-map f (held-rows (i + 1) b)) out″ at″
-row-turn f b i w v = rw (add-one, rows-more i b, concat-snoc f (held-rows i b) (row-at i b)) (then w v)
+row-turn f b i w v = rw (add-one, rows-more i b, concat-map-snoc f (held-rows i b) (row-at i b)) (then w v)
 
 ranges-more : (w n : ℕ) (t : List ℕ) → ranges-in w (suc n) t ≡ ranges-in w n t ++ (getD t (n * w) 0, getD t (n * w + 1) 0) ∷ []
 unfolding ranges-in
@@ -51,7 +47,7 @@ pub gap-turn : (g : List ℕ) (i : ℕ) {out out′ out″ : List ℕ} {at at′
     → Wrote out at (concat-map gap-line (ranges-in pair-words (i + 1) g)) out″ at″
 gap-turn g i w v =
     let r : Range = (getD g (i * pair-words) 0, getD g (i * pair-words + 1) 0) in
-    rw (add-one, ranges-more pair-words i g, concat-snoc gap-line (ranges-in pair-words i g) r) (then w v)
+    rw (add-one, ranges-more pair-words i g, concat-map-snoc gap-line (ranges-in pair-words i g) r) (then w v)
 
 -- the heading stands above one gap or more
 headed : (n : ℕ) (g : List ℕ) → (n ≡ 0 → ⊥)

@@ -1,7 +1,7 @@
 -- NULs off the ends of some bytes. A NUL byte is always a character by itself, so it makes no difference whether they come
 -- off before the text is decoded or after (proofs/Nul.antt). Assumes nothing.
 use mathlib.Core.List.{List, [], _∷_}
-use mathlib.Core.Bool.{Bool, true, false, cond}
+use mathlib.Core.Bool.{Bool, cond}
 use Prim.Native.Nat.{ℕ}
 use lib.Dec.{eqb}
 use Rattle.utf8.specs.White.{drop-end}

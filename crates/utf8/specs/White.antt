@@ -1,6 +1,6 @@
 -- White_Space of Unicode's PropList.txt, and `trim`. Assumes nothing.
 use mathlib.Core.List.{List, [], _∷_}
-use mathlib.Core.Bool.{Bool, true, false, cond, _||_}
+use mathlib.Core.Bool.{Bool, false, cond, _||_}
 use Prim.Native.Nat.{ℕ, _+_, _*_, _%_}
 use Rattle.utf8.specs.Utf8.{between, Chunk, char, junk}
 

@@ -10,7 +10,7 @@ use lib.ListN.{length, take, set, length-set, length-append}
 use lib.Seq.{length-take-le, take-suc-set, sets, length-sets}
 use borrow.Author.Tests.{lt-ltb, le-ltb}
 use Rattle.mdf4.specs.Bytes.{bit}
-use Rattle.mdf4.specs.Act.{Kind, ID, HD, DG, CG, CN, SI, TX, MD, DT, SD, DL, UT, UD, Row, Link, State, elem, and-then, check, marked, visit}
+use Rattle.mdf4.specs.Act.{Kind, Row, Link, State, elem, and-then, check, marked, visit}
 use Rattle.mdf4.specs.Kinds.{shape, is}
 use Rattle.mdf4.specs.Walk.{push}
 use Rattle.mdf4.specs.Answers.{row-words, link-words}
@@ -18,7 +18,7 @@ use Rattle.blocks.specs.declared.error.MdfError.the-variants.{VisitedFull}
 use Rattle.walk_state.specs.declared.Row as declared
 use Rattle.walk_state.specs.declared.Walk.{Walk}
 use Rattle.walk_state.specs.declared.Walked.the-variants.{On, Refused}
-use Rattle.tables.specs.Rows.{Used, kind-of, row-of-words, link-of-words, held-rows, held-links}
+use Rattle.tables.specs.Rows.{Used, row-of-words, link-of-words, held-rows, held-links}
 use Rattle.walk_state.specs.Held.{held, said, Within, Met, row-told, Listed, with-links, Linked}
 use Rattle.tables.proofs.Tables.{used-more, row-more, words-more}
 use Rattle.tables.proofs.Words.{row-again, link-again}

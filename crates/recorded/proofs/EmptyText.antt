@@ -1,0 +1,117 @@
+-- empty_text.mf4, as the Rust answers it.
+use mathlib.Core.Path.{_≡_, refl}
+use mathlib.Core.List.{List, [], _∷_, _++_}
+use Prim.Native.Nat.{ℕ}
+use lib.ListN.{replicate}
+use Rattle.fmt.specs.Text.{ascii}
+use Rattle.mdf4.specs.Act.{ok}
+use Rattle.mdf4.specs.Answers.{Lent, Counts, layout-exit, to-text-exit, to-tree-exit, clear-list-exit}
+use Rattle.mdf4.proofs.Computed.{computed}
+
+abbrev lent : ℕ → ℕ → ℕ → ℕ → ℕ → ℕ → Lent
+lent v b l g s o = record { visited = v; blocks = b; links = l; gaps = g; scratch = s; out = o }
+
+abbrev counts : ℕ → ℕ → ℕ → ℕ → ℕ → Counts
+counts v b l g o = record { visited = v; blocks = b; links = l; gaps = g; bytes = o }
+
+recording : List ℕ
+recording =
+    ascii "MDF     4.10    console1" ++ replicate 4 0 ++ (154 ∷ 1 ∷ []) ++ replicate 34 0 ++ ascii "##HD" ++ replicate 4 0 ++ (104 ∷ [])
+    ++ replicate 7 0 ++ (6 ∷ []) ++ replicate 47 0 ++ (200 ∷ []) ++ replicate 39 0
+    ++ (7 ∷ 7 ∷ 7 ∷ 7 ∷ 7 ∷ 7 ∷ 7 ∷ 7 ∷ 7 ∷ 7 ∷ 7 ∷ 7 ∷ 7 ∷ 7 ∷ 7 ∷ 7 ∷ 7 ∷ 7 ∷ 7 ∷ 7 ∷ 7 ∷ 7 ∷ 7 ∷ 7 ∷ 7 ∷ 7 ∷ 7 ∷ 7 ∷ 7 ∷ 7 ∷ 7 ∷ 7 ∷ [])
+    ++ ascii "##TX" ++ replicate 20 0
+    ++ (7 ∷ 7 ∷ 7 ∷ 7 ∷ 7 ∷ 7 ∷ 7 ∷ 7 ∷ 7 ∷ 7 ∷ 7 ∷ 7 ∷ 7 ∷ 7 ∷ 7 ∷ 7 ∷ 7 ∷ 7 ∷ 7 ∷ 7 ∷ 7 ∷ 7 ∷ 7 ∷ 7 ∷ 7 ∷ 7 ∷ 7 ∷ 7 ∷ 7 ∷ 7 ∷ 7 ∷ 7 ∷ 7 ∷ 7 ∷ 7 ∷ 7 ∷ [])
+
+visited : List ℕ
+visited =
+    0 ∷ 64 ∷ 200 ∷ []
+
+links : List ℕ
+links =
+    0 ∷ 0 ∷ 0 ∷ 0 ∷ 0 ∷ 0 ∷ 0 ∷ 0 ∷ 0 ∷ 0 ∷ 200 ∷ 1481909028 ∷ []
+
+gaps : List ℕ
+gaps =
+    168 ∷ 200 ∷ 200 ∷ 260 ∷ []
+
+blocks : List ℕ
+blocks =
+    0 ∷ 64 ∷ 64 ∷ 1145643811 ∷ 1 ∷ 0 ∷ 0 ∷ 0 ∷ 0 ∷ 0 ∷ 0 ∷ 0 ∷ 64 ∷ 168 ∷ 104 ∷ 1145578275 ∷ 2 ∷ 0 ∷ 0 ∷ 6 ∷ 0 ∷ 0 ∷ 0 ∷ 0 ∷ 200 ∷ 200 ∷ 0
+    ∷ 1481909027 ∷ 7 ∷ 0 ∷ 0 ∷ 0 ∷ 0 ∷ 0 ∷ 0 ∷ 0 ∷ []
+
+layout : layout-exit (lent 3 36 12 4 0 0) recording
+    ≡ record {
+      answer = ok (counts 3 3 6 2 0);
+      visited = visited;
+      blocks = blocks;
+      links = links;
+      gaps = gaps;
+      scratch = replicate 0 0;
+      out =
+          [];
+    }
+unfolding computed recording visited links gaps blocks
+layout = refl
+
+text : to-text-exit (lent 3 36 12 4 0 1197) recording
+    ≡ record {
+      answer = ok (counts 3 3 6 2 1197);
+      visited = visited;
+      blocks = blocks;
+      links = links;
+      gaps = gaps;
+      scratch = replicate 0 0;
+      out =
+          ascii "MDF block layout (file size: 260 bytes / 0x104)\n" ++ (10 ∷ []) ++ ascii "Blocks (3 total), sorted by offset:\n"
+          ++ ascii "offset        end                 size  type    description\n"
+          ++ ascii "------------  ------------  ----------  ------  ------------------------------------------------------------\n"
+          ++ ascii "0x0000000000  0x0000000040          64  ##ID    Identification: version='4.10', program='console1'\n"
+          ++ ascii "                                            version_number=410, standard_unfinalized_flags=0x0000, custom_unfinalized_flags=0x0000\n"
+          ++ ascii "0x0000000040  0x00000000a8         104  ##HD    Header Block (abs_time=0 ns, tz=0 min)\n"
+          ++ ascii "                                            flags=0x00, time_flags=0x00, time_quality=0x00\n"
+          ++ ascii "0x00000000c8  0x00000000c8           0  ##TX    Text: \"\" (0 chars)\n" ++ (10 ∷ [])
+          ++ ascii "Unreferenced byte ranges (gaps):\n" ++ ascii "  0x00000000a8 .. 0x00000000c8  (32 bytes)\n"
+          ++ ascii "  0x00000000c8 .. 0x0000000104  (60 bytes)\n" ++ (10 ∷ []) ++ ascii "Block links:\n"
+          ++ ascii "  ##HD @ 0x0000000040 (Header Block (abs_time=0 ns, tz=0 min))\n" ++ ascii "    first_dg_addr                -> (null)\n"
+          ++ ascii "    file_history_addr            -> (null)\n" ++ ascii "    channel_tree_addr            -> (null)\n"
+          ++ ascii "    first_attachment_addr        -> (null)\n" ++ ascii "    first_event_addr             -> (null)\n"
+          ++ ascii "    comment_addr                 -> 0x00000000c8 (##TX)\n";
+    }
+unfolding computed recording visited links gaps blocks
+text = refl
+
+clear : clear-list-exit (lent 3 36 12 4 8 56) recording
+    ≡ record {
+      answer = ok (counts 3 3 6 2 56);
+      visited = visited;
+      blocks = blocks;
+      links = links;
+      gaps = gaps;
+      scratch = replicate 8 0;
+      out =
+          67 ∷ 76 ∷ 82 ∷ 1 ∷ 0 ∷ 0 ∷ 0 ∷ 0 ∷ 4 ∷ 1 ∷ 0 ∷ 0 ∷ 0 ∷ 0 ∷ 0 ∷ 0 ∷ 2 ∷ 0 ∷ 0 ∷ 0 ∷ 0 ∷ 0 ∷ 0 ∷ 0 ∷ 168 ∷ 0 ∷ 0 ∷ 0 ∷ 0 ∷ 0 ∷ 0 ∷ 0 ∷ 200
+          ∷ 0 ∷ 0 ∷ 0 ∷ 0 ∷ 0 ∷ 0 ∷ 0 ∷ 224 ∷ 0 ∷ 0 ∷ 0 ∷ 0 ∷ 0 ∷ 0 ∷ 0 ∷ 4 ∷ 1 ∷ 0 ∷ 0 ∷ 0 ∷ 0 ∷ 0 ∷ 0 ∷ [];
+    }
+unfolding computed recording visited links gaps blocks
+clear = refl
+
+marked-blocks : List ℕ
+marked-blocks =
+    0 ∷ 64 ∷ 64 ∷ 1145643811 ∷ 1 ∷ 0 ∷ 0 ∷ 0 ∷ 0 ∷ 0 ∷ 0 ∷ 1 ∷ 64 ∷ 168 ∷ 104 ∷ 1145578275 ∷ 2 ∷ 0 ∷ 0 ∷ 6 ∷ 0 ∷ 0 ∷ 0 ∷ 1 ∷ 200 ∷ 200 ∷ 0
+    ∷ 1481909027 ∷ 7 ∷ 0 ∷ 0 ∷ 0 ∷ 0 ∷ 0 ∷ 0 ∷ 1 ∷ []
+
+tree : to-tree-exit (lent 3 36 12 4 0 194) recording
+    ≡ record {
+      answer = ok (counts 3 3 6 2 194);
+      visited = visited;
+      blocks = marked-blocks;
+      links = links;
+      gaps = gaps;
+      scratch = replicate 0 0;
+      out =
+          ascii "##ID @ 0x0000000000 [Identification: version='4.10', program='console1']\n"
+          ++ ascii "##HD @ 0x0000000040 [Header Block (abs_time=0 ns, tz=0 min)]\n"
+          ++ ascii "`-- (comment_addr) ##TX @ 0x00000000c8 [Text: \"\" (0 chars)]\n";
+    }
+unfolding computed recording visited links gaps marked-blocks
+tree = refl
