@@ -150,6 +150,11 @@ module _ (k : Kind) (r : List ℕ) (a : ℕ) where
       let y : n + 0 ≡ n = omega arith in
       by-needs e f (rw p (twice (leb n (length r - a)) _ n _ (rw (z (bytes r a n), y) refl)))
 
+  -- n bytes, whatever the header says
+  pub by-same : {h : BlockHeader} (n : ℕ) → ok h ≡ headed k r a → ((w : List ℕ) → shape k .need w ≡ n) → ((w : List ℕ) → header-ok k w ≡ true) → ((w : List ℕ) → rest k w ≡ 0)
+      → a + n ≤ length r → _≡_ {A = Out ℕ} (ok n) (parsed length k r a)
+  by-same n e p s z l = by-need e (s (bytes r a 24)) z (rw (p (bytes r a 24)) (need-there (length r) a n (omega arith)))
+
   -- the header that was found
   pub found : {h : BlockHeader} → ok h ≡ headed k r a → Found r a h
   unfolding headed header-of

@@ -1,10 +1,10 @@
 -- The first refusals of every parser, and the header behind them.
-use mathlib.Core.Path.{_≡_, refl, sym, ap}
+use mathlib.Core.Path.{_≡_}
 use mathlib.Core.List.{List}
 use Prim.Native.Nat.{ℕ, _+_, _-_, _^_, _≤_, _<_, min}
 use lib.ListN.{length, take, drop}
 use borrow.Author.Tests.{le-leb, lt-leb, eq-eqb, ne-eqb}
-use Rattle.mdf4.specs.Bytes.{bytes, num}
+use Rattle.mdf4.specs.Bytes.{num}
 use Rattle.mdf4.specs.Act.{Refusal, Out, ok, err, refusal, and-then, check}
 use Rattle.mdf4.specs.Kinds.{block-len, links-nr}
 use Rattle.mdf4.proofs.Fields.{part-bytes}

@@ -16,3 +16,5 @@ pub mod Texts
 pub mod Names
 pub mod Version
 pub mod Identification
+pub mod ReaderWalk
+pub mod ReaderMade

@@ -1,5 +1,4 @@
 -- Document 01's number, place, a and b of each refusal.
-use Prim.Native.Nat.{ℕ}
 use Rattle.mdf4.specs.Act.{Refusal, refusal}
 use Rattle.blocks.specs.declared.error.Refusal as declared
 use Rattle.blocks.specs.declared.error.MdfError.{MdfError}

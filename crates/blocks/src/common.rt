@@ -2,9 +2,9 @@
 ghost use mathlib.Core.Path.{_≡_};
 ghost use Prim.Native.Nat.{_+_, _≤_, _-_, _^_, min};
 ghost use lib.ListN.{length};
-ghost use Rattle.mdf4.specs.Bytes.{bytes};
 ghost use Rattle.blocks.specs.Headers.{header-read, header-of, inside-or, marked-or};
 use crate::error::MdfError;
+use crate::reader::Reader;
 use byteorder::read_u32;
 use byteorder::read_u64;
 
@@ -57,26 +57,7 @@ impl BlockHeader {
         requires { ⌜ 24 ≤ needed ⌝ }
         ensures { λ r. ⌜ header-read r ≡ inside-or (now (file .entry)) offset needed ⌝ }
     {
-        let len = file.len() as u64;
-        if len < needed {
-            let expected = saturating_add(offset, needed);
-            return HeaderRead::Refused(MdfError::TooShortBuffer {
-                place: offset,
-                expected,
-                actual: len,
-            });
-        }
-        if len - needed < offset {
-            let expected = saturating_add(offset, needed);
-            return HeaderRead::Refused(MdfError::TooShortBuffer {
-                place: offset,
-                expected,
-                actual: len,
-            });
-        }
-        let at = offset as usize;
-        let end = at + 24;
-        HeaderRead::Header(BlockHeader::fields(&file[at..end]))
+        Reader::header(Reader::new(file, offset), needed)
     }
 
     // The same, and the mark has to be `id`.

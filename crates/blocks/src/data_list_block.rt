@@ -15,6 +15,7 @@ use crate::common::wide;
 use crate::error::MdfError;
 use crate::extent::Extent;
 use crate::extent::need_from_block;
+use crate::reader::Reader;
 use byteorder::read_u8;
 use byteorder::read_u32;
 use byteorder::read_u64;
@@ -45,8 +46,7 @@ impl DataListBlock {
         requires { ⌜ offset + 24 + 8 * i + 8 ≤ length (now file) ⌝ }
         ensures { λ r. ⌜ r ≡ num (now (file .entry)) (offset + 24 + 8 * i) 8 ⌝ }
     {
-        let at = offset as usize + 24 + 8 * i as usize;
-        read_u64(file, at)
+        Reader::u64_at(Reader::new(file, offset), 24 + 8 * i)
     }
 
     // The words of 8 bytes behind the count: the equal length, or an offset for each data block.

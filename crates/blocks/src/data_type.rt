@@ -1,5 +1,4 @@
 // The names of common.rs's DataType, as `{:?}` prints them.
-ghost use mathlib.Core.Path.{_≡_};
 ghost use mathlib.Core.List.{[]};
 ghost use Prim.Native.Nat.{_<_};
 ghost use lib.ListN.{getD};

@@ -22,12 +22,6 @@ pub enum VersionRead {
     Refused(MdfError),
 }
 
-fn wide(x: u8) -> u32
-    ensures { λ r. ⌜ r ≡ x ⌝ }
-{
-    x as u32
-}
-
 // The first '.', or the end.
 fn find_dot(s: &[u8], at: usize, end: usize) -> usize
     requires { ⌜ (at ≤ end) × (end ≤ length (now s)) ⌝ }
@@ -58,7 +52,7 @@ fn digits(s: &[u8], at: usize, end: usize, part: u64) -> VersionRead
         if b'9' < b {
             return VersionRead::Refused(MdfError::InvalidVersionString { part });
         }
-        sum = sum * 10 + wide(b - b'0');
+        sum = sum * 10 + (b - b'0') as u32;
         if 0xffff < sum {
             return VersionRead::Refused(MdfError::InvalidVersionString { part });
         }

@@ -7,10 +7,8 @@ use lib.ListN.{length, getD}
 use Rattle.mdf4.specs.Bytes.{num}
 use Rattle.mdf4.proofs.Fields.{num-zero, num-suc, num-add}
 
--- lo and hi are the halves x and y, widened
-pub halves : (s : List ℕ) (at v : ℕ) {lo hi x y : ℕ} → at + (v + v) ≤ length s → lo ≡ x → x ≡ num s at v → hi ≡ y → y ≡ num s (at + v) v
-    → lo + 256 ^ v * hi ≡ num s at (v + v)
-halves s at v h a b c d = rw (a, b, c, d) (sym (num-add s at v v (omega arith)))
+pub halves : (s : List ℕ) (at v : ℕ) {x y : ℕ} → at + (v + v) ≤ length s → x ≡ num s at v → y ≡ num s (at + v) v → x + 256 ^ v * y ≡ num s at (v + v)
+halves s at v h a b = rw (a, b) (sym (num-add s at v v (omega arith)))
 
 pub one-byte : (s : List ℕ) (at : ℕ) → at + 1 ≤ length s → getD s at 0 ≡ num s at 1
 one-byte s at h = omega (arith, num-suc s at 0 (omega arith), num-zero s (suc at))

@@ -1,16 +1,16 @@
 -- The line below a block of each kind, of its fields as the code has them.
 use mathlib.Core.Path.{_≡_, refl, ap}
-use mathlib.Core.Bool.{true, false}
+use mathlib.Core.Bool.{true}
 use mathlib.Core.List.{List, [], _∷_, _++_}
 use Prim.Native.Nat.{ℕ, zero, suc, _+_, _-_, _*_, _/_, _%_, _<_}
 use native.Mathlib.Omega.{arith}
 use lib.Dec.{ltb}
 use lib.ListN.{drop, replicate}
-use borrow.Author.Tests.{lt-ltb, le-ltb}
+use borrow.Author.Tests.{lt-ltb}
 use Rattle.fmt.specs.Text.{ascii}
 use Rattle.fmt.specs.Format.{format}
 use Rattle.mdf4.specs.Bytes.{bytes, num}
-use Rattle.mdf4.specs.Act.{ID, HD, CG, CN, DT, DL, Row}
+use Rattle.mdf4.specs.Act.{Kind, ID, HD, CG, CN, DT, DL, Row}
 use Rattle.mdf4.specs.Reads.{listed-len}
 use Rattle.mdf4.specs.Describe.{extra-line, extra-of, indented, records, payload, trailing-bytes}
 use Rattle.blocks.specs.declared.header_block.HeaderBlock.{HeaderBlock}
@@ -24,6 +24,7 @@ use Rattle.blocks.specs.ChannelBlock.{channel-block-of}
 use Rattle.blocks.specs.DataListBlock.{data-list-block-of}
 use Rattle.blocks.specs.IdentificationBlock.{Identification, identification-of, identified}
 use Rattle.tables.specs.Rows.{kind-of}
+use Rattle.tables.proofs.Words.{by-number}
 use Rattle.describe.specs.declared.BlockInfo.{BlockInfo}
 use Rattle.describe.specs.Info.{row-of, OfKind}
 use Rattle.describe.proofs.Rows.{tail-bytes, tail-num, lined}
@@ -95,21 +96,11 @@ dt-line-some {b = b} o h = rw (lined o, above-zero (b .«record_size») h)
 
 -- the other kinds have no line
 none-of : (n : ℕ) (w : Row) (o : List ℕ) → (n ≡ 1 → ⊥) → (n ≡ 2 → ⊥) → (n ≡ 4 → ⊥) → (n ≡ 5 → ⊥) → (n ≡ 9 → ⊥) → (n ≡ 11 → ⊥) → extra-of (kind-of n) w o ≡ []
-unfolding extra-of kind-of
-none-of zero w o a1 a2 a4 a5 a9 a11 = refl
-none-of (suc zero) w o a1 a2 a4 a5 a9 a11 = absurd (a1 refl)
-none-of (suc (suc zero)) w o a1 a2 a4 a5 a9 a11 = absurd (a2 refl)
-none-of (suc (suc (suc zero))) w o a1 a2 a4 a5 a9 a11 = refl
-none-of (suc (suc (suc (suc zero)))) w o a1 a2 a4 a5 a9 a11 = absurd (a4 refl)
-none-of (suc (suc (suc (suc (suc zero))))) w o a1 a2 a4 a5 a9 a11 = absurd (a5 refl)
-none-of (suc (suc (suc (suc (suc (suc zero)))))) w o a1 a2 a4 a5 a9 a11 = refl
-none-of (suc (suc (suc (suc (suc (suc (suc zero))))))) w o a1 a2 a4 a5 a9 a11 = refl
-none-of (suc (suc (suc (suc (suc (suc (suc (suc zero)))))))) w o a1 a2 a4 a5 a9 a11 = refl
-none-of (suc (suc (suc (suc (suc (suc (suc (suc (suc zero))))))))) w o a1 a2 a4 a5 a9 a11 = absurd (a9 refl)
-none-of (suc (suc (suc (suc (suc (suc (suc (suc (suc (suc zero)))))))))) w o a1 a2 a4 a5 a9 a11 = refl
-none-of (suc (suc (suc (suc (suc (suc (suc (suc (suc (suc (suc zero))))))))))) w o a1 a2 a4 a5 a9 a11 = absurd (a11 refl)
-none-of (suc (suc (suc (suc (suc (suc (suc (suc (suc (suc (suc (suc zero)))))))))))) w o a1 a2 a4 a5 a9 a11 = refl
-none-of (suc (suc (suc (suc (suc (suc (suc (suc (suc (suc (suc (suc (suc n))))))))))))) w o a1 a2 a4 a5 a9 a11 = refl
+unfolding extra-of
+none-of n w o a1 a2 a4 a5 a9 a11 =
+    by-number (λ (k : Kind). extra-of k w o ≡ []) n refl
+    (λ e. absurd (a1 e)) (λ e. absurd (a2 e)) (λ e. refl) (λ e. absurd (a4 e)) (λ e. absurd (a5 e)) (λ e. refl)
+    (λ e. refl) (λ e. refl) (λ e. absurd (a9 e)) (λ e. refl) (λ e. absurd (a11 e)) (λ e. refl)
 
 pub no-line : (r : List ℕ) (b : BlockInfo) → (b .kind ≡ 1 → ⊥) → (b .kind ≡ 2 → ⊥) → (b .kind ≡ 4 → ⊥) → (b .kind ≡ 5 → ⊥) → (b .kind ≡ 9 → ⊥) → (b .kind ≡ 11 → ⊥)
     → extra-line r (row-of b) ≡ []

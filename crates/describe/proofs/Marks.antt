@@ -1,5 +1,5 @@
 -- The text of a mark, and its width.
-use mathlib.Core.Path.{_≡_, refl}
+use mathlib.Core.Path.{_≡_}
 use mathlib.Core.List.{List, [], _∷_}
 use Prim.Native.Nat.{ℕ, zero, suc, pred, _/_, _%_, _≤_}
 use native.Mathlib.Omega.{arith}

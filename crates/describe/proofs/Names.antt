@@ -1,21 +1,20 @@
 -- The fixed names of links by their places in one table, and the names of a data list's links.
 use mathlib.Core.Path.{_≡_, refl, sym, ap, _∙_}
 use mathlib.Core.Bool.{Bool, true, false, cond}
-use mathlib.Core.List.{List, [], _∷_, _++_, append-nil}
-use Prim.Native.Nat.{ℕ, zero, suc, _+_, _-_, _^_, _≤_, _<_, min}
+use mathlib.Core.List.{List, [], _∷_, _++_}
+use Prim.Native.Nat.{ℕ, zero, suc, _+_, _-_, _≤_, _<_}
 use native.Mathlib.Omega.{arith}
 use lib.Dec.{ltb}
-use lib.ListN.{length, getD, drop, replicate, List·getD-append, List·getD-eq-default}
+use lib.ListN.{length, getD, drop, List·getD-append, List·getD-eq-default}
 use lib.Seq.{getD-drop}
 use borrow.Author.Tests.{lt-ltb, le-ltb, ltb-true, ltb-false}
 use Rattle.fmt.specs.Text.{ascii, Wrote}
-use Rattle.fmt.specs.Digits.{pad-right}
 use Rattle.fmt.specs.Format.{format}
-use Rattle.fmt.proofs.Text.{then}
-use Rattle.mdf4.specs.Act.{HD, DG, CG, CN, SI, DL}
+use Rattle.mdf4.specs.Act.{Kind, HD, DG, CG, CN, SI, DL}
 use Rattle.mdf4.specs.Kinds.{shape, is}
 use Rattle.mdf4.specs.Describe.{link-name}
 use Rattle.tables.specs.Rows.{kind-of}
+use Rattle.tables.proofs.Words.{by-number}
 use Rattle.describe.specs.Links.{link-names}
 
 -- the last is empty
@@ -56,21 +55,11 @@ module _ {n p : ℕ} (i : ℕ) where
 
 -- the other kinds have no names
 pub no-place : (n i : ℕ) → (n ≡ 2 → ⊥) → (n ≡ 3 → ⊥) → (n ≡ 4 → ⊥) → (n ≡ 5 → ⊥) → (n ≡ 6 → ⊥) → (n ≡ 11 → ⊥) → getD link-names 28 [] ≡ getD (shape (kind-of n) .names) i []
-unfolding link-names shape kind-of
-no-place zero i a2 a3 a4 a5 a6 a11 = refl
-no-place (suc zero) i a2 a3 a4 a5 a6 a11 = refl
-no-place (suc (suc zero)) i a2 a3 a4 a5 a6 a11 = absurd (a2 refl)
-no-place (suc (suc (suc zero))) i a2 a3 a4 a5 a6 a11 = absurd (a3 refl)
-no-place (suc (suc (suc (suc zero)))) i a2 a3 a4 a5 a6 a11 = absurd (a4 refl)
-no-place (suc (suc (suc (suc (suc zero))))) i a2 a3 a4 a5 a6 a11 = absurd (a5 refl)
-no-place (suc (suc (suc (suc (suc (suc zero)))))) i a2 a3 a4 a5 a6 a11 = absurd (a6 refl)
-no-place (suc (suc (suc (suc (suc (suc (suc zero))))))) i a2 a3 a4 a5 a6 a11 = refl
-no-place (suc (suc (suc (suc (suc (suc (suc (suc zero)))))))) i a2 a3 a4 a5 a6 a11 = refl
-no-place (suc (suc (suc (suc (suc (suc (suc (suc (suc zero))))))))) i a2 a3 a4 a5 a6 a11 = refl
-no-place (suc (suc (suc (suc (suc (suc (suc (suc (suc (suc zero)))))))))) i a2 a3 a4 a5 a6 a11 = refl
-no-place (suc (suc (suc (suc (suc (suc (suc (suc (suc (suc (suc zero))))))))))) i a2 a3 a4 a5 a6 a11 = absurd (a11 refl)
-no-place (suc (suc (suc (suc (suc (suc (suc (suc (suc (suc (suc (suc zero)))))))))))) i a2 a3 a4 a5 a6 a11 = refl
-no-place (suc (suc (suc (suc (suc (suc (suc (suc (suc (suc (suc (suc (suc n))))))))))))) i a2 a3 a4 a5 a6 a11 = refl
+unfolding link-names shape
+no-place n i a2 a3 a4 a5 a6 a11 =
+    by-number (λ (k : Kind). getD link-names 28 [] ≡ getD (shape k .names) i []) n refl
+    (λ e. refl) (λ e. absurd (a2 e)) (λ e. absurd (a3 e)) (λ e. absurd (a4 e)) (λ e. absurd (a5 e)) (λ e. absurd (a6 e))
+    (λ e. refl) (λ e. refl) (λ e. refl) (λ e. refl) (λ e. absurd (a11 e)) (λ e. refl)
 
 -- the places that the code finds
 pub placed-below : (first count i : ℕ) → i < count → first + count ≤ 28 → (first + i ≡ cond (ltb i count) (first + i) 28) × (first + i < 29)
@@ -117,21 +106,11 @@ data-wrote (suc i) h w = rw (← (list-data (suc i) (omega arith))) w
 
 -- those of the other kinds
 not-list : (n : ℕ) → (n ≡ 11 → ⊥) → is (kind-of n) DL ≡ false
-unfolding is shape kind-of
-not-list zero a11 = refl
-not-list (suc zero) a11 = refl
-not-list (suc (suc zero)) a11 = refl
-not-list (suc (suc (suc zero))) a11 = refl
-not-list (suc (suc (suc (suc zero)))) a11 = refl
-not-list (suc (suc (suc (suc (suc zero))))) a11 = refl
-not-list (suc (suc (suc (suc (suc (suc zero)))))) a11 = refl
-not-list (suc (suc (suc (suc (suc (suc (suc zero))))))) a11 = refl
-not-list (suc (suc (suc (suc (suc (suc (suc (suc zero)))))))) a11 = refl
-not-list (suc (suc (suc (suc (suc (suc (suc (suc (suc zero))))))))) a11 = refl
-not-list (suc (suc (suc (suc (suc (suc (suc (suc (suc (suc zero)))))))))) a11 = refl
-not-list (suc (suc (suc (suc (suc (suc (suc (suc (suc (suc (suc zero))))))))))) a11 = absurd (a11 refl)
-not-list (suc (suc (suc (suc (suc (suc (suc (suc (suc (suc (suc (suc zero)))))))))))) a11 = refl
-not-list (suc (suc (suc (suc (suc (suc (suc (suc (suc (suc (suc (suc (suc n))))))))))))) a11 = refl
+unfolding is shape
+not-list n a11 =
+    by-number (λ (k : Kind). is k DL ≡ false) n refl
+    (λ e. refl) (λ e. refl) (λ e. refl) (λ e. refl) (λ e. refl) (λ e. refl)
+    (λ e. refl) (λ e. refl) (λ e. refl) (λ e. refl) (λ e. absurd (a11 e)) (λ e. refl)
 
 pub fixed-link : (n i : ℕ) → (n ≡ 11 → ⊥) → link-name (kind-of n) i ≡ getD (shape (kind-of n) .names) i []
 unfolding link-name

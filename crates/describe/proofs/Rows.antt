@@ -1,11 +1,10 @@
 -- A block of a known kind: what is said of it, where it stands, and its fields as those of the recording from its offset on.
-use mathlib.Core.Path.{_≡_, refl, sym, ap, _∙_}
-use mathlib.Core.Bool.{cond, true}
+use mathlib.Core.Path.{_≡_, refl, ap}
+use mathlib.Core.Bool.{cond}
 use mathlib.Core.List.{List, []}
-use Prim.Native.Nat.{ℕ, zero, suc, _+_, _-_, _*_, _≤_}
+use Prim.Native.Nat.{ℕ, _+_, _-_, _*_, _≤_}
 use native.Mathlib.Omega.{arith}
-use lib.Dec.{leb}
-use lib.ListN.{length, getD, take, drop, length-take, length-drop}
+use lib.ListN.{length, getD, take, drop, length-drop}
 use lib.Seq.{drop-drop, take-all}
 use borrow.Author.Tests.{leb-true}
 use Rattle.mdf4.specs.Bytes.{bytes, little, num}
@@ -18,7 +17,7 @@ use Rattle.mdf4.proofs.Results.{check-ok}
 use Rattle.mdf4.proofs.Reading.{read-whole}
 use Rattle.mdf4.proofs.Fields.{bytes-bytes, read-len-is}
 use Rattle.tables.specs.Rows.{kind-of, row-at, row-of-words}
-use Rattle.tables.proofs.Words.{kind-again, RowIs, row-is}
+use Rattle.tables.proofs.Words.{kind-again, by-number, row-is}
 use Rattle.describe.specs.declared.BlockInfo.{BlockInfo}
 use Rattle.describe.specs.Info.{row-of, OfKind}
 
@@ -87,32 +86,16 @@ module _ {r : List ℕ} {b : BlockInfo} where
   of-ut e h = of-kind UT e h
 
 none-below : (n : ℕ) → n ≤ 6 → (n ≡ 1 → ⊥) → (n ≡ 2 → ⊥) → (n ≡ 3 → ⊥) → (n ≡ 4 → ⊥) → (n ≡ 5 → ⊥) → (n ≡ 6 → ⊥) → kind-of n ≡ UD
-unfolding kind-of
-none-below zero h a1 a2 a3 a4 a5 a6 = refl
-none-below (suc zero) h a1 a2 a3 a4 a5 a6 = absurd (a1 refl)
-none-below (suc (suc zero)) h a1 a2 a3 a4 a5 a6 = absurd (a2 refl)
-none-below (suc (suc (suc zero))) h a1 a2 a3 a4 a5 a6 = absurd (a3 refl)
-none-below (suc (suc (suc (suc zero)))) h a1 a2 a3 a4 a5 a6 = absurd (a4 refl)
-none-below (suc (suc (suc (suc (suc zero))))) h a1 a2 a3 a4 a5 a6 = absurd (a5 refl)
-none-below (suc (suc (suc (suc (suc (suc zero)))))) h a1 a2 a3 a4 a5 a6 = absurd (a6 refl)
-none-below (suc (suc (suc (suc (suc (suc (suc n))))))) h a1 a2 a3 a4 a5 a6 = absurd (omega arith)
+none-below n h a1 a2 a3 a4 a5 a6 =
+    by-number (λ (k : Kind). k ≡ UD) n refl
+    (λ e. absurd (a1 e)) (λ e. absurd (a2 e)) (λ e. absurd (a3 e)) (λ e. absurd (a4 e)) (λ e. absurd (a5 e)) (λ e. absurd (a6 e))
+    (λ e. absurd (omega arith)) (λ e. absurd (omega arith)) (λ e. absurd (omega arith)) (λ e. absurd (omega arith)) (λ e. absurd (omega arith)) (λ e. absurd (omega arith))
 
 none-above : (n : ℕ) → 7 ≤ n → (n ≡ 7 → ⊥) → (n ≡ 8 → ⊥) → (n ≡ 9 → ⊥) → (n ≡ 10 → ⊥) → (n ≡ 11 → ⊥) → (n ≡ 12 → ⊥) → kind-of n ≡ UD
-unfolding kind-of
-none-above zero h a7 a8 a9 a10 a11 a12 = absurd (omega arith)
-none-above (suc zero) h a7 a8 a9 a10 a11 a12 = absurd (omega arith)
-none-above (suc (suc zero)) h a7 a8 a9 a10 a11 a12 = absurd (omega arith)
-none-above (suc (suc (suc zero))) h a7 a8 a9 a10 a11 a12 = absurd (omega arith)
-none-above (suc (suc (suc (suc zero)))) h a7 a8 a9 a10 a11 a12 = absurd (omega arith)
-none-above (suc (suc (suc (suc (suc zero))))) h a7 a8 a9 a10 a11 a12 = absurd (omega arith)
-none-above (suc (suc (suc (suc (suc (suc zero)))))) h a7 a8 a9 a10 a11 a12 = absurd (omega arith)
-none-above (suc (suc (suc (suc (suc (suc (suc zero))))))) h a7 a8 a9 a10 a11 a12 = absurd (a7 refl)
-none-above (suc (suc (suc (suc (suc (suc (suc (suc zero)))))))) h a7 a8 a9 a10 a11 a12 = absurd (a8 refl)
-none-above (suc (suc (suc (suc (suc (suc (suc (suc (suc zero))))))))) h a7 a8 a9 a10 a11 a12 = absurd (a9 refl)
-none-above (suc (suc (suc (suc (suc (suc (suc (suc (suc (suc zero)))))))))) h a7 a8 a9 a10 a11 a12 = absurd (a10 refl)
-none-above (suc (suc (suc (suc (suc (suc (suc (suc (suc (suc (suc zero))))))))))) h a7 a8 a9 a10 a11 a12 = absurd (a11 refl)
-none-above (suc (suc (suc (suc (suc (suc (suc (suc (suc (suc (suc (suc zero)))))))))))) h a7 a8 a9 a10 a11 a12 = absurd (a12 refl)
-none-above (suc (suc (suc (suc (suc (suc (suc (suc (suc (suc (suc (suc (suc n))))))))))))) h a7 a8 a9 a10 a11 a12 = refl
+none-above n h a7 a8 a9 a10 a11 a12 =
+    by-number (λ (k : Kind). k ≡ UD) n refl
+    (λ e. absurd (omega arith)) (λ e. absurd (omega arith)) (λ e. absurd (omega arith)) (λ e. absurd (omega arith)) (λ e. absurd (omega arith)) (λ e. absurd (omega arith))
+    (λ e. absurd (a7 e)) (λ e. absurd (a8 e)) (λ e. absurd (a9 e)) (λ e. absurd (a10 e)) (λ e. absurd (a11 e)) (λ e. absurd (a12 e))
 
 module _ {r : List ℕ} {b : BlockInfo} (h : Readable r (row-of b)) where
   pub of-low : b .kind ≤ 6 → (b .kind ≡ 1 → ⊥) → (b .kind ≡ 2 → ⊥) → (b .kind ≡ 3 → ⊥) → (b .kind ≡ 4 → ⊥) → (b .kind ≡ 5 → ⊥) → (b .kind ≡ 6 → ⊥) → OfKind UD r b

@@ -10,7 +10,7 @@ ghost use Rattle.mdf4.specs.Answers.{block-row-words};
 ghost use Rattle.mdf4.specs.Describe.{describe, extra-line, mark-bytes, mark-text, mark-column, link-name};
 ghost use Rattle.mdf4.proofs.Good.{Readable};
 ghost use Rattle.tables.specs.Rows.{kind-of, row-at};
-ghost use Rattle.describe.specs.Info.{row-of, OfKind};
+ghost use Rattle.describe.specs.Info.{row-of};
 use crate::descriptions::describe_channel;
 use crate::descriptions::describe_channel_group;
 use crate::descriptions::describe_data;

@@ -1,3 +1,4 @@
+-- `describe_block` meets its contract: an answer for each kind up to 6; the leaves take the rest.
 use Rattle.describe.proofs.Rows.{of-id, of-hd, of-dg, of-cg, of-cn, of-si, of-low}
 use borrow.Author.Needs.{needs}
 use Rattle.describe.proofs.describe_block.Statement.{statement}

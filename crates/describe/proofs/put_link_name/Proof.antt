@@ -1,3 +1,4 @@
+-- `put_link_name` meets its contract: a data list's link, or a fixed name.
 use Rattle.describe.proofs.Written.{list-named, fixed-named}
 use borrow.Author.Needs.{needs}
 use Rattle.describe.proofs.put_link_name.Statement.{statement}

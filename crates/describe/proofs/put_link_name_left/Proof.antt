@@ -1,3 +1,4 @@
+-- `put_link_name_left` meets its contract: a data list's link or a fixed name, each padded.
 use Rattle.describe.proofs.Written.{list-padded, fixed-padded}
 use borrow.Author.Needs.{needs}
 use Rattle.describe.proofs.put_link_name_left.Statement.{statement}

@@ -1,3 +1,4 @@
+-- `describe_channel` meets its contract: the block's bytes are there, and three texts follow each other.
 use Rattle.describe.proofs.Rows.{begins}
 use Rattle.describe.proofs.Written.{cn-there, cn-wrote}
 use borrow.Author.Needs.{needs}

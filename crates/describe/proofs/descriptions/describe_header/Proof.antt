@@ -1,3 +1,4 @@
+-- `describe_header` meets its contract: the block's bytes are there, and two of its fields are put.
 use Rattle.describe.proofs.Rows.{begins}
 use Rattle.describe.proofs.Written.{hd-there, hd-wrote}
 use borrow.Author.Needs.{needs}

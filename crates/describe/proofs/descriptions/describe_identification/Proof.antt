@@ -1,3 +1,4 @@
+-- `describe_identification` meets its contract: the block's bytes are there, and its texts are parts of them.
 use Rattle.describe.proofs.Rows.{begins}
 use Rattle.describe.proofs.Written.{id-there, id-wrote}
 use borrow.Author.Needs.{needs}

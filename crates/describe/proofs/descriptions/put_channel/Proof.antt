@@ -1,3 +1,4 @@
+-- `put_channel` meets its contract: two templates, and the name of the data type between them.
 use Rattle.describe.proofs.Written.{channel-wrote}
 use borrow.Author.Needs.{needs}
 use Rattle.describe.proofs.descriptions.put_channel.Statement.{statement}

@@ -1,3 +1,4 @@
+-- `put_header` meets its contract: a template, the number with its sign, and an end.
 use Rattle.describe.proofs.Written.{header-wrote}
 use borrow.Author.Needs.{needs}
 use Rattle.describe.proofs.descriptions.put_header.Statement.{statement}

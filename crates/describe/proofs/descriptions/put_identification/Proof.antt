@@ -1,3 +1,4 @@
+-- `put_identification` meets its contract: two labelled texts, which lie inside the block, and an end.
 use Rattle.describe.proofs.Written.{id-texts}
 use borrow.Author.Needs.{needs}
 use Rattle.describe.proofs.descriptions.put_identification.Statement.{statement}

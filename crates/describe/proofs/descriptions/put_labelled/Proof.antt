@@ -1,3 +1,4 @@
+-- `put_labelled` meets its contract: one text behind the other.
 use Rattle.fmt.proofs.Text.{then}
 use borrow.Author.Needs.{needs}
 use Rattle.describe.proofs.descriptions.put_labelled.Statement.{statement}

@@ -1,3 +1,4 @@
+-- `name_place` meets its contract: an answer for each kind that has names, and the empty name for the others.
 use native.Mathlib.Omega.{arith}
 use Rattle.describe.proofs.Names.{hd-placed, dg-placed, cg-placed, cn-placed, si-placed, no-place}
 use borrow.Author.Needs.{needs}

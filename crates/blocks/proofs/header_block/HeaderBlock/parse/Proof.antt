@@ -1,4 +1,7 @@
+-- `HeaderBlock::parse` meets its contract: the header's refusal, or 104 bytes that are there.
 use native.Mathlib.Omega.{arith}
+use Prim.Native.Nat.{_+_, _≤_}
+use lib.ListN.{length}
 use Rattle.mdf4.specs.Act.{HD}
 use Rattle.blocks.specs.HeaderBlock.{header-block-of}
 use Rattle.blocks.proofs.Headers.{told}
@@ -6,62 +9,34 @@ use Rattle.blocks.proofs.Fixed.{fixed-hd, fixed-inside, fixed-refused, 
 use borrow.Author.Needs.{needs}
 use Rattle.blocks.proofs.header_block.HeaderBlock.parse.Statement.{statement}
 use Rattle.blocks.proofs.header_block.HeaderBlock.parse.Tie as tie
-use Rattle.blocks.proofs.header_block.HeaderBlock.parse.Reads as reads
-use Rattle.blocks.proofs.header_block.HeaderBlock.parse.Lts as lts
-use Rattle.blocks.proofs.common.BlockHeader.parse_marked.Reads as parse-marked-reads
-use Rattle.blocks.proofs.header_block.HeaderBlock.fields.Reads as fields-reads
 
--- src/header_block.rt:64:15
-parse-marked-requires : tie.Need-parse-marked-requires
-parse-marked-requires c κs = search needs
+-- the block's own bytes are there
+inside : (c : tie.After-known-told2) → c .before .before .before .before .before .args .offset + 104 ≤ length (c .before .before .before .before .before .args .file .now)
+inside c =
+    let a = c .before .before .before .before .before .args in
+    fixed-inside header-block-of HD 104 0x44482323 fixed-hd (a .file .now) (a .offset) (told (c .before .header .given .1) (c .before .before .before .parse-marked .ensures))
 
--- src/header_block.rt:65:33
-enum-known-e : tie.Need-enum-known-e
-enum-known-e c = search needs
-
--- src/header_block.rt:66:32
-enum-known-header : tie.Need-enum-known-header
-enum-known-header c = search needs
-
--- src/header_block.rt:68:27
-add-end : tie.Need-add-end
-add-end c = omega (arith, fixed-inside header-block-of HD 104 0x44482323 fixed-hd (c .before .before .before .before .before .args .file .now) (c .before .before .before .before .before .args .offset) (told (c .before .header .given .1) (c .before .before .before .parse-marked .ensures)))
-
--- src/header_block.rt:69:60
-sub-fields : tie.Need-sub-fields
-sub-fields c = search needs
-
--- src/header_block.rt:69:60
-part-fields-start : tie.Need-part-fields-start
-part-fields-start c = search needs
-
--- src/header_block.rt:69:60
-part-fields-end : tie.Need-part-fields-end
-part-fields-end c = omega (arith, fixed-inside header-block-of HD 104 0x44482323 fixed-hd (c .before .before .before .before .before .args .file .now) (c .before .before .before .before .before .args .offset) (told (c .before .header .given .1) (c .before .before .before .parse-marked .ensures)))
-
--- src/header_block.rt:69:40
-fields-requires : tie.Need-fields-requires
-fields-requires c κs = search needs
-
--- src/header_block.rt:61:5
 returns : tie.Need-returns
-returns c = fixed-refused header-block-of HD 104 0x44482323 fixed-hd (c .before .before .before .before .before .args .file .now) (c .before .before .before .before .before .args .offset) (told (c .before .e .given .1) (c .before .before .before .parse-marked .ensures))
+returns c =
+    let a = c .before .before .before .before .before .args in
+    fixed-refused header-block-of HD 104 0x44482323 fixed-hd (a .file .now) (a .offset) (told (c .before .e .given .1) (c .before .before .before .parse-marked .ensures))
 
--- src/header_block.rt:61:5
 returns-2 : tie.Need-returns-2
-returns-2 c = fixed-read header-block-of HD 104 0x44482323 fixed-hd (c .before .before .before .before .before .before .before .args .file .now) (c .before .before .before .before .before .before .before .args .offset) (told (c .before .before .before .header .given .1) (c .before .before .before .before .before .parse-marked .ensures)) (c .fields .ensures)
+returns-2 c =
+    let a = c .before .before .before .before .before .before .before .args in
+    fixed-read header-block-of HD 104 0x44482323 fixed-hd (a .file .now) (a .offset) (told (c .before .before .before .header .given .1) (c .before .before .before .before .before .parse-marked .ensures)) (c .fields .ensures)
 
 pub parse-spec : {M : Type 1} → statement M
 parse-spec =
     tie.close
     (tie.spec
-    parse-marked-requires
-    enum-known-e
-    enum-known-header
-    add-end
-    sub-fields
-    part-fields-start
-    part-fields-end
-    fields-requires
+    (λ c κs. search needs)
+    (λ c. search needs)
+    (λ c. search needs)
+    (λ c. omega (arith, inside c))
+    (λ c. search needs)
+    (λ c. search needs)
+    (λ c. omega (arith, inside c))
+    (λ c κs. search needs)
     returns
     returns-2)
