@@ -17,6 +17,7 @@ use Rattle.mdf4.proofs.Fuel.{once-seen}
 use Rattle.mdf4.proofs.Results.{never}
 use Rattle.blocks.specs.declared.data_list_block.DataListBlock.{DataListBlock}
 use Rattle.blocks.specs.declared.error.MdfError.{MdfError}
+use Rattle.blocks.specs.Errors.{numbers}
 use Rattle.blocks.specs.Parse.{parsed}
 use Rattle.blocks.specs.DataListBlock.{data-list-block-of}
 use Rattle.blocks.proofs.Parse.{parsed-ok}
@@ -173,9 +174,14 @@ opened-from {w} {w1} {x} {r} {a} {v} {b} {l} m h p = record { says = m .says ∙
     go (DataList w2 n) t = record { later = record { within = t .later .within; grew = omega (arith, h, t .later .grew) }; some = t .some; inside = t .inside }
     go (Refused e) t = tt
 
+-- a refusal
+pub open-refused : {w : Walk} {x : Entered} {r : List ℕ} {a : ℕ} {v b l : List ℕ} {o : Out (List Link × State)} {e : MdfError}
+    → x ≡ Refused e → o ≡ err (numbers e) → Opens w x r a v b l o
+open-refused e p = rw e (record { says = sym p; after = tt })
+
 -- no list was entered
 pub not-seen : {w : Walk} {d : ℕ} → Deep (Seen w) d
 not-seen = record { list = λ w' n e. let z : _≡_ {A = ℕ} 0 1 = cc in absurd (omega arith) }
 
-pub not-refused : {e : MdfError} {d : ℕ} → Deep (Refused e) d
-not-refused = record { list = λ w' n e. let z : _≡_ {A = ℕ} 0 1 = cc in absurd (omega arith) }
+pub not-refused : {x : Entered} {e : MdfError} {d : ℕ} → x ≡ Refused e → Deep x d
+not-refused p = rw p (record { list = λ w' n e. let z : _≡_ {A = ℕ} 0 1 = cc in absurd (omega arith) })

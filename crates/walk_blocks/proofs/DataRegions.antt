@@ -24,7 +24,7 @@ use Rattle.walk_state.specs.declared.Walked.{Walked}
 use Rattle.walk_state.specs.declared.Walked.the-variants.{On, Refused as Stopped}
 use Rattle.walk_state.specs.Held.{held, said, Later, Met}
 use Rattle.walk_state.proofs.Steps.{on, off}
-use Rattle.walk_blocks.specs.Regions.{open-list, enter-list, data-list, Open, Opens, Deep, handed-up}
+use Rattle.walk_blocks.specs.Regions.{open-list, enter-list, links-from, data-list, Open, Opens, Deep, handed-up}
 use Rattle.walk_blocks.specs.declared.regions.Entered.{Entered}
 use Rattle.walk_blocks.specs.declared.regions.Entered.the-variants.{Seen, List as DataList, Refused}
 use Rattle.walk_blocks.proofs.regions.Entered.{the-type}
@@ -49,14 +49,14 @@ module _ (h : RecordLayout) (l : Link) (r : List ℕ) (s : State) where
   region-block zero n = let f = list-mark l ∙ ne-eqb (l .found) 1279533860 n in rw f
   region-block (suc d) n = let f = list-mark l ∙ ne-eqb (l .found) 1279533860 n in rw f
 
--- the links ls of a list from place i on: the data links first, then next
-abbrev from : (Link → Act (Unit {0})) → List Link → ℕ → Act (Unit {0})
-from f ls i = each f (drop i ls) >> f (getD ls 0 null)
+-- the links ls of a list: the data links first, then next
+abbrev in-order : (Link → Act (Unit {0})) → List Link → Act (Unit {0})
+in-order f ls = each f (drop 1 ls) >> f (getD ls 0 null)
 
 -- where there is no link there is nothing to walk
-from-none : (d : ℕ) (h : RecordLayout) (r : List ℕ) (s : State) → said (from (walk-data-region d h) [] 1 r s) ≡ ok s
+none-left : (d : ℕ) (h : RecordLayout) (r : List ℕ) (s : State) → said (in-order (walk-data-region d h) [] r s) ≡ ok s
 unfolding each pure _>>_ and-then
-from-none d h r s = ap said (region-block h null r s d (λ e. absurd (omega (arith, e)))) ∙ block-none h null r s refl
+none-left d h r s = ap said (region-block h null r s d (λ e. absurd (omega (arith, e)))) ∙ block-none h null r s refl
 
 -- a list that is listed, and what is done with its links
 module _ (f : List Link → Act (Unit {0})) (r : List ℕ) (k : State → Result Stop (Block × State)) where
@@ -99,21 +99,21 @@ module _ (h : RecordLayout) (a : ℕ) (r : List ℕ) (s : State) where
   list-off (suc d) e q = go (elem a (s .visited)) q
     where
       go : (b : Bool) → reason (choose b (pure []) (visit DL a >> open-list a) r s) ≡ err e
-          → said (choose b (pure tt) (visit DL a >> (enter DL a (no-records 0) >>= λ b. from (walk-data-region d h) (b .1) 1)) r s) ≡ err e
+          → said (choose b (pure tt) (visit DL a >> (enter DL a (no-records 0) >>= λ b. in-order (walk-data-region d h) (b .1))) r s) ≡ err e
       go true q = never q
-      go false q = behind-off (λ ls. from (walk-data-region d h) ls 1) r (enter DL a (no-records 0) r) (visit DL a r s) e q
+      go false q = behind-off (in-order (walk-data-region d h)) r (enter DL a (no-records 0) r) (visit DL a r s) e q
 
   list-on : (d : ℕ) (ls : List Link) (s' : State) → reason (enter-list (suc d) a r s) ≡ ok (ls, s')
-      → said (data-list (suc d) h a r s) ≡ said (from (walk-data-region d h) ls 1 r s')
+      → said (data-list (suc d) h a r s) ≡ said (in-order (walk-data-region d h) ls r s')
   unfolding enter-list data-list walk-data-list open-list link-of once choose pure _>>=_ _>>_ reason
   list-on d ls s' q = go (elem a (s .visited)) q
     where
       go : (b : Bool) → reason (choose b (pure []) (visit DL a >> open-list a) r s) ≡ ok (ls, s')
-          → said (choose b (pure tt) (visit DL a >> (enter DL a (no-records 0) >>= λ b. from (walk-data-region d h) (b .1) 1)) r s)
-          ≡ said (from (walk-data-region d h) ls 1 r s')
+          → said (choose b (pure tt) (visit DL a >> (enter DL a (no-records 0) >>= λ b. in-order (walk-data-region d h) (b .1))) r s)
+          ≡ said (in-order (walk-data-region d h) ls r s')
       go true q = let z : _≡_ {A = List Link × State} ([], s) (ls, s') = cc in
-          sym (from-none d h r s) ∙ ap (λ (t : List Link × State). said (from (walk-data-region d h) (t .0) 1 r (t .1))) z
-      go false q = behind-on (λ ls. from (walk-data-region d h) ls 1) r (enter DL a (no-records 0) r) (visit DL a r s) ls s' q
+          sym (none-left d h r s) ∙ ap (λ (t : List Link × State). said (in-order (walk-data-region d h) (t .0) r (t .1))) z
+      go false q = behind-on (in-order (walk-data-region d h)) r (enter DL a (no-records 0) r) (visit DL a r s) ls s' q
 
   list-seen : (d : ℕ) (s' : State) → reason (enter-list d a r s) ≡ ok ([], s') → said (data-list d h a r s) ≡ ok s'
   unfolding enter-list data-list list-too-deep seen choose pure stop reason
@@ -123,7 +123,7 @@ module _ (h : RecordLayout) (a : ℕ) (r : List ℕ) (s : State) where
           → said (choose b (pure (tt {0})) (stop DL a (refusal 15 a max-lists 0)) r s) ≡ ok s'
       go true q = let z : _≡_ {A = List Link × State} ([], s) ([], s') = cc in ap (λ (t : List Link × State). ok (t .1)) z
       go false q = never (sym q)
-  list-seen (suc d) s' q = list-on d [] s' q ∙ from-none d h r s'
+  list-seen (suc d) s' q = list-on d [] s' q ∙ none-left d h r s'
 
 -- a list that is not entered
 pub list-left : (d : ℕ) (h : RecordLayout) (a : ℕ) (r : List ℕ) (s : State) (w : Walk) (x : Entered) (y : Walked) (v b l : List ℕ)
@@ -146,42 +146,44 @@ link-is r a n i t f h p q =
     let e : getD (words r (a + 24) n) i 0 ≡ t = words-at r (a + 24) n i h ∙ sym p in
     List·getD-map (make-link r) (words r (a + 24) n) i 0 ∙ rw (e, q)
 
--- what they lead to, from place i on; d lists may be entered from there
-unfoldable pub links-from : ℕ → RecordLayout → ℕ → ℕ → ℕ → Act (Unit {0})
-links-from d h a n i r s = from (walk-data-region d h) (links-at r a n) i r s
-
--- a list that is entered
+-- a list that is entered: what it comes to, told by the walk of its data links
 pub record Into (d : ℕ) (h : RecordLayout) (a : ℕ) (r : List ℕ) (s : State) (w w' : Walk) (n : ℕ) (v b l : List ℕ) : Type 0 where
   pub there : Open w w' r a n v b l
   pub deep : 1 ≤ d
-  pub says : said (data-list d h a r s) ≡ said (links-from (d - 1) h a n 1 r (held w' v b l))
+  pub links-off : (e : Refusal) → said (links-from (d - 1) h a n 1 r (held w' v b l)) ≡ err e → said (data-list d h a r s) ≡ err e
+  pub links-on : (s' : State) (t f : ℕ) → said (links-from (d - 1) h a n 1 r (held w' v b l)) ≡ ok s' → t ≡ num r (a + 24 + 8 * 0) 8 → f ≡ make-link r t .found
+      → said (data-list d h a r s) ≡ said (walk-data-region (d - 1) h (record { target = t; found = f }) r s')
 
 pub list-into : (d : ℕ) (h : RecordLayout) (a : ℕ) (r : List ℕ) (s : State) (w w' : Walk) (n : ℕ) (x : Entered) (v b l : List ℕ)
     → x ≡ DataList w' n → Opens w x r a v b l (reason (enter-list d a r s)) → Deep x d → Into d h a r s w w' n v b l
 unfolding links-from
 list-into zero h a r s w w' n x v b l e m p = absurd (not-suc-le-zero (p .list w' n e))
-list-into (suc d) h a r s w w' n x v b l e m p =
+list-into (suc d) h a r s w w' n x v b l e m y =
     let z : suc d - 1 ≡ d = omega arith in
     let o = rw e at m in
-    record { there = o .after; deep = p .list w' n e; says = rw z (list-on h a r s d _ _ (sym (o .says))) }
+    let f = walk-data-region d h in
+    let ls = links-at r a n in
+    let p = list-on h a r s d _ _ (sym (o .says)) in
+    record {
+      there = o .after;
+      deep = y .list w' n e;
+      links-off = rw z (λ x q. p ∙ then-off (each f (drop 1 ls)) (f (getD ls 0 null)) r (held w' v b l) x q);
+      links-on = rw z (λ s' t g q i k. p ∙ ap said (then-on (each f (drop 1 ls)) (f (getD ls 0 null)) r (held w' v b l) s' q) ∙ ap (λ (x : Link). said (f x r s')) (link-is r a n 0 t g (o .after .some) i k));
+    }
 
 -- the link at place i, then those behind it
 module _ (f : Link → Act (Unit {0})) (ls : List Link) (i : ℕ) (r : List ℕ) (s : State) where
-  from-on : (s' : State) → i < length ls → said (f (getD ls i null) r s) ≡ ok s' → from f ls i r s ≡ from f ls (i + 1) r s'
-  unfolding each _>>_
-  from-on s' h e =
-      let p = then-on (f (getD ls i null)) (each f (drop (suc i) ls)) r s s' e in
-      rw (add-one, drop-cons ls i null h) (ap (λ (z : Result Stop (Unit {0} × State)). and-then z (λ p. f (getD ls 0 null) r (p .1))) p)
-
-  from-off : (e : Refusal) → i < length ls → said (f (getD ls i null) r s) ≡ err e → said (from f ls i r s) ≡ err e
+  each-on : (s' : State) → i < length ls → said (f (getD ls i null) r s) ≡ ok s' → each f (drop i ls) r s ≡ each f (drop (i + 1) ls) r s'
   unfolding each
-  from-off e h q =
-      let p = then-off (f (getD ls i null)) (each f (drop (suc i) ls)) r s e q in
-      rw (drop-cons ls i null h) (then-off (f (getD ls i null) >> each f (drop (suc i) ls)) (f (getD ls 0 null)) r s e p)
+  each-on s' h e = rw (add-one, drop-cons ls i null h) (then-on (f (getD ls i null)) (each f (drop (suc i) ls)) r s s' e)
 
-  from-end : length ls ≤ i → from f ls i r s ≡ f (getD ls 0 null) r s
-  unfolding each pure _>>_ and-then
-  from-end h = rw (drop-of-length-le ls h)
+  each-off : (e : Refusal) → i < length ls → said (f (getD ls i null) r s) ≡ err e → said (each f (drop i ls) r s) ≡ err e
+  unfolding each
+  each-off e h q = rw (drop-cons ls i null h) (then-off (f (getD ls i null)) (each f (drop (suc i) ls)) r s e q)
+
+  each-end : length ls ≤ i → said (each f (drop i ls) r s) ≡ ok s
+  unfolding each pure
+  each-end h = rw (drop-of-length-le ls h)
 
 -- a loop over the links: from w to w', with the places before i walked, what is left comes to o
 pub record Turning (d : ℕ) (h : RecordLayout) (a n : ℕ) (r : List ℕ) (o : Out State) (w w' : Walk) (v b l : List ℕ) (i : ℕ) : Type 0 where
@@ -201,18 +203,14 @@ module _ (d : ℕ) (h : RecordLayout) (a n : ℕ) (r : List ℕ) (o : Out State)
         let y = on e met-there in
         record {
           later = record { within = y .within; grew = omega (arith, y .grew, m .later .grew) };
-          left = m .left ∙ ap said (from-on (walk-data-region d h) (links-at r a n) i r (held w' v b l) _ (rw (links-length r a n) lt) (y .says));
+          left = m .left ∙ ap said (each-on (walk-data-region d h) (links-at r a n) i r (held w' v b l) _ (rw (links-length r a n) lt) (y .says));
         }
 
     pub turn-off : (e : MdfError) → x ≡ Stopped e → o ≡ err (numbers e)
     unfolding links-from
     turn-off e y =
-        m .left ∙ from-off (walk-data-region d h) (links-at r a n) i r (held w' v b l) (numbers e) (rw (links-length r a n) lt) (off y met-there)
+        m .left ∙ each-off (walk-data-region d h) (links-at r a n) i r (held w' v b l) (numbers e) (rw (links-length r a n) lt) (off y met-there)
 
-  pub turn-end : (t f : ℕ) → 1 ≤ n → n ≤ i → t ≡ num r (a + 24 + 8 * 0) 8 → f ≡ make-link r t .found
-      → o ≡ said (walk-data-region d h (record { target = t; found = f }) r (held w' v b l))
+  pub turn-end : n ≤ i → o ≡ ok (held w' v b l)
   unfolding links-from
-  turn-end t f s le p q =
-      m .left
-      ∙ ap said (from-end (walk-data-region d h) (links-at r a n) i r (held w' v b l) (rw (links-length r a n) le))
-      ∙ ap (λ (x : Link). said (walk-data-region d h x r (held w' v b l))) (link-is r a n 0 t f s p q)
+  turn-end le = m .left ∙ each-end (walk-data-region d h) (links-at r a n) i r (held w' v b l) (rw (links-length r a n) le)

@@ -36,6 +36,18 @@ module _ {A B : Type 0} (m : Act A) (n : Act B) (r : List ℕ) (s : State) where
       go (ok p) d = never d
       go (err x) d = d
 
+-- three steps in order
+module _ {A B C : Type 0} (m : Act A) (n : Act B) (k : Act C) (r : List ℕ) (s : State) where
+  pub first-off : (e : Refusal) → said (m r s) ≡ err e → said ((m >> n >> k) r s) ≡ err e
+  first-off e p = then-off (m >> n) k r s e (then-off m n r s e p)
+
+  module _ (s1 : State) (p : said (m r s) ≡ ok s1) where
+    pub second-off : (e : Refusal) → said (n r s1) ≡ err e → said ((m >> n >> k) r s) ≡ err e
+    second-off e q = then-off (m >> n) k r s e (ap said (then-on m n r s s1 p) ∙ q)
+
+    pub third : (s2 : State) → said (n r s1) ≡ ok s2 → (m >> n >> k) r s ≡ k r s2
+    third s2 q = then-on (m >> n) k r s s2 (ap said (then-on m n r s s1 p) ∙ q)
+
 -- a step that takes another's value
 pub bind-off : {A B : Type 0} (m : Act A) (f : A → Act B) (r : List ℕ) (s : State) (e : Refusal) → said (m r s) ≡ err e → said ((m >>= f) r s) ≡ err e
 unfolding _>>=_ and-then

@@ -21,7 +21,7 @@ use Rattle.blocks.proofs.Told.{ok-only}
 use Rattle.blocks.proofs.Parse.{parsed-ok}
 use Rattle.walk_state.specs.Held.{said, state-of, Tells}
 use Rattle.walk_blocks.specs.Sources.{walk-texts, enter-source}
-use Rattle.walk_blocks.proofs.Entering.{then-on, then-off, bind-off, once-on, once-off, enter-refused}
+use Rattle.walk_blocks.proofs.Entering.{first-off, second-off, third, bind-off, once-on, once-off, enter-refused}
 use Rattle.walk_blocks.proofs.Reading.{mark-head, plain, simple-si, simple-tells, enter-read, enter-told}
 
 -- a link that may be null, to a block that is entered once
@@ -92,18 +92,16 @@ si-targets o =
 module _ (x y z : ℕ) (r : List ℕ) (s : State) where
   pub texts-first : (e : Refusal) → said (walk-text-like x r s) ≡ err e → said (walk-texts x y z r s) ≡ err e
   unfolding walk-texts
-  texts-first e p = then-off (walk-text-like x >> walk-text-like y) (walk-text-like z) r s e (then-off (walk-text-like x) (walk-text-like y) r s e p)
+  texts-first = first-off (walk-text-like x) (walk-text-like y) (walk-text-like z) r s
 
   module _ (s1 : State) (p : said (walk-text-like x r s) ≡ ok s1) where
     pub texts-second : (e : Refusal) → said (walk-text-like y r s1) ≡ err e → said (walk-texts x y z r s) ≡ err e
     unfolding walk-texts
-    texts-second e q =
-        then-off (walk-text-like x >> walk-text-like y) (walk-text-like z) r s e (ap said (then-on (walk-text-like x) (walk-text-like y) r s s1 p) ∙ q)
+    texts-second = second-off (walk-text-like x) (walk-text-like y) (walk-text-like z) r s s1 p
 
     pub texts-third : (s2 : State) → said (walk-text-like y r s1) ≡ ok s2 → said (walk-texts x y z r s) ≡ said (walk-text-like z r s2)
     unfolding walk-texts
-    texts-third s2 q =
-        ap said (then-on (walk-text-like x >> walk-text-like y) (walk-text-like z) r s s2 (ap said (then-on (walk-text-like x) (walk-text-like y) r s s1 p) ∙ q))
+    texts-third s2 q = ap said (third (walk-text-like x) (walk-text-like y) (walk-text-like z) r s s1 p s2 q)
 
 -- a source that is not read, and what one that is tells
 pub source-refused : (r : List ℕ) (a : ℕ) (s : State) {e : Refusal} → err e ≡ parsed source-block-of SI r a → said (enter-source a r s) ≡ err e

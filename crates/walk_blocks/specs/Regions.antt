@@ -3,12 +3,14 @@ use mathlib.Core.Path.{_≡_}
 use mathlib.Core.List.{List, [], map}
 use mathlib.Core.Logic.{_⊎_}
 use Prim.Native.Nat.{ℕ, zero, suc, _+_, _*_, _≤_}
-use lib.ListN.{length}
+use lib.ListN.{length, drop}
 use Rattle.mdf4.specs.Bytes.{words}
-use Rattle.mdf4.specs.Act.{Kind, DT, SD, DL, UD, Link, State, Out, ok, err, refusal, Act, choose, pure, stop, _>>=_, once, seen}
+use Rattle.mdf4.specs.Act.{Kind, DT, SD, DL, UD, Link, State, Out, ok, err, refusal, Act, choose, pure, stop, _>>=_, once, each, seen}
 use Rattle.mdf4.specs.Kinds.{shape, RecordLayout, no-records, records-in, make-link}
 use Rattle.mdf4.specs.Walk.{enter, max-lists, list-too-deep, walk-data-list, walk-data-region}
 use Rattle.blocks.specs.Errors.{numbers}
+use Rattle.blocks.specs.declared.data_list_block.DataListBlockRead.{DataListBlockRead}
+use Rattle.blocks.specs.declared.data_list_block.DataListBlockRead.the-variants as read
 use Rattle.walk_state.specs.declared.Walk.{Walk}
 use Rattle.walk_state.specs.declared.Walked.{Walked}
 use Rattle.walk_state.specs.declared.Walked.the-variants.{On, Refused as Stopped}
@@ -34,6 +36,10 @@ open-list a = enter DL a (no-records 0) >>= λ b. pure (b .1)
 unfoldable pub enter-list : ℕ → ℕ → Act (List Link)
 enter-list zero a = seen a λ b. choose b (pure []) (stop DL a (refusal 15 a max-lists 0))
 enter-list (suc depth) a = once DL a [] (open-list a)
+
+-- what the links of the list at a, which has n, lead to from place i on
+unfoldable pub links-from : ℕ → RecordLayout → ℕ → ℕ → ℕ → Act (Unit {0})
+links-from depth h a n i r = each (walk-data-region depth h) (drop i (map (make-link r) (words r (a + 24) n))) r
 
 -- a data list and what its links lead to
 unfoldable pub data-list : ℕ → RecordLayout → ℕ → Act (Unit {0})
@@ -71,3 +77,13 @@ abbrev pub handed-up : Entered → Walked
 handed-up (Seen w) = On w
 handed-up (DataList w n) = On w
 handed-up (Refused e) = Stopped e
+
+-- the answer where no data list was read
+abbrev pub no-list : DataListBlockRead → Walk → Entered
+no-list (read.Block b) w = Seen w
+no-list (read.Refused e) w = Refused e
+
+-- the answer where a data list could not be marked or listed
+abbrev pub not-opened : Walked → Entered
+not-opened (On w) = Seen w
+not-opened (Stopped e) = Refused e

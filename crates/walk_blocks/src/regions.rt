@@ -9,7 +9,8 @@ ghost use Rattle.mdf4.specs.Act as spec;
 ghost use Rattle.mdf4.specs.Kinds as kinds;
 ghost use Rattle.mdf4.specs.Walk as walk;
 ghost use Rattle.walk_state.specs.Held.{held, said, state-of, checked, Within, Met, Linked, Tells, Counted};
-ghost use Rattle.walk_blocks.specs.Regions.{layout, Data, open-list, enter-list, data-list, Opens, Deep, handed-up};
+ghost use Rattle.walk_blocks.specs.Regions.{layout, Data, open-list, enter-list, links-from, data-list, Opens, Deep, handed-up, no-list, not-opened};
+use crate::reads::no_header;
 use blocks::common::BlockHeader;
 use blocks::common::HeaderRead;
 use blocks::common::wide;
@@ -64,25 +65,24 @@ fn list_header(
     requires { ⌜ Counted w (now links) ⌝ }
     ensures { λ r. ⌜ ((k : spec.Kind) (h : kinds.RecordLayout) (v : List ℕ) → Data k h kind «record_size» «invalidation_bytes» «record_id_len» → Within w v (now (blocks .entry)) (now (links .entry)) → Met w r v (now (blocks .exit)) (now (links .exit)) (said (walk.enter k addr h (now (file .entry)) (held w v (now (blocks .entry)) (now (links .entry)))))) ⌝ }
 {
-    match BlockHeader::parse(file, addr, 24) {
-        HeaderRead::Refused(e) => Walked::Refused(e),
-        HeaderRead::Header(header) => {
-            let block = Block {
-                offset: addr,
-                size: header.block_len,
-                mark: wide(header.id),
-                kind,
-                record_size,
-                invalidation_bytes,
-                record_id_len,
-            };
-            list_block(file, blocks, links, w, block, &[])
-        }
-    }
+    let read = BlockHeader::parse(file, addr, 24);
+    let HeaderRead::Header(header) = read else {
+        return no_header(read, w);
+    };
+    let block = Block {
+        offset: addr,
+        size: header.block_len,
+        mark: wide(header.id),
+        kind,
+        record_size,
+        invalidation_bytes,
+        record_id_len,
+    };
+    list_block(file, blocks, links, w, block, &[])
 }
 
 // Marks a data block as visited and lists it.
-pub fn record_data_block(
+fn record_data_block(
     file: &[u8],
     visited: &mut [u64],
     blocks: &mut [u64],
@@ -115,6 +115,50 @@ pub fn record_data_block(
         invalidation_bytes,
         record_id_len,
     )
+}
+
+// The same of a ##DT, ##DV, ##RD or ##RV, which holds records.
+fn record_simple_data_block(
+    file: &[u8],
+    visited: &mut [u64],
+    blocks: &mut [u64],
+    links: &mut [u64],
+    w: Walk,
+    addr: u64,
+    record_size: u64,
+    invalidation_bytes: u64,
+    record_id_len: u64,
+) -> Walked
+    requires { ⌜ Within w (now visited) (now blocks) (now links) ⌝ }
+    ensures { λ r. ⌜ Met w r (now (visited .exit)) (now (blocks .exit)) (now (links .exit)) (said (walk.record-data-block spec.DT addr (layout «record_size» «invalidation_bytes» «record_id_len») (now (file .entry)) (held w (now (visited .entry)) (now (blocks .entry)) (now (links .entry))))) ⌝ }
+{
+    record_data_block(
+        file,
+        visited,
+        blocks,
+        links,
+        w,
+        DT,
+        addr,
+        record_size,
+        invalidation_bytes,
+        record_id_len,
+    )
+}
+
+// The same of a ##SD, which holds none.
+fn record_signal_data_block(
+    file: &[u8],
+    visited: &mut [u64],
+    blocks: &mut [u64],
+    links: &mut [u64],
+    w: Walk,
+    addr: u64,
+) -> Walked
+    requires { ⌜ Within w (now visited) (now blocks) (now links) ⌝ }
+    ensures { λ r. ⌜ Met w r (now (visited .exit)) (now (blocks .exit)) (now (links .exit)) (said (walk.record-data-block spec.SD addr (kinds.no-records 0) (now (file .entry)) (held w (now (visited .entry)) (now (blocks .entry)) (now (links .entry))))) ⌝ }
+{
+    record_data_block(file, visited, blocks, links, w, SD, addr, 0, 0, 0)
 }
 
 // The same of a block of an unknown kind; with fewer than 24 bytes left it is not listed.
@@ -185,13 +229,12 @@ pub fn walk_data_block(
         return Walked::On(w);
     }
     if leads_to_data(found) {
-        return record_data_block(
+        return record_simple_data_block(
             file,
             visited,
             blocks,
             links,
             w,
-            DT,
             target,
             record_size,
             invalidation_bytes,
@@ -200,7 +243,7 @@ pub fn walk_data_block(
     }
     // "##SD"
     if found == 0x4453_2324 {
-        return record_data_block(file, visited, blocks, links, w, SD, target, 0, 0, 0);
+        return record_signal_data_block(file, visited, blocks, links, w, target);
     }
     record_unknown_block(file, visited, blocks, links, w, target)
 }
@@ -266,30 +309,50 @@ fn list_links(
     Walked::On(w2)
 }
 
+// The answer where no data list was read.
+fn no_list(read: DataListBlockRead, w: Walk) -> Entered
+    ensures { λ r. ⌜ r ≡ no-list read w ⌝ }
+{
+    match read {
+        DataListBlockRead::Block(_) => Entered::Seen(w),
+        DataListBlockRead::Refused(e) => Entered::Refused(e),
+    }
+}
+
+// The answer where a data list could not be marked or listed.
+fn not_opened(r: Walked) -> Entered
+    ensures { λ x. ⌜ x ≡ not-opened r ⌝ }
+{
+    match r {
+        Walked::On(w) => Entered::Seen(w),
+        Walked::Refused(e) => Entered::Refused(e),
+    }
+}
+
 // Reads a data list and lists it.
 fn open_list(file: &[u8], blocks: &mut [u64], links: &mut [u64], w: Walk, addr: u64) -> Entered
     requires { ⌜ Counted w (now links) ⌝ }
     ensures { λ r. ⌜ ((v : List ℕ) → Within w v (now (blocks .entry)) (now (links .entry)) → Opens w r (now (file .entry)) addr v (now (blocks .exit)) (now (links .exit)) (spec.reason (open-list addr (now (file .entry)) (held w v (now (blocks .entry)) (now (links .entry)))))) ⌝ }
 {
-    match DataListBlock::parse(file, addr) {
-        DataListBlockRead::Refused(e) => Entered::Refused(e),
-        DataListBlockRead::Block(list) => {
-            let count = list.links_nr as usize;
-            let block = Block {
-                offset: addr,
-                size: list.block_len,
-                mark: wide(read_u32(file, addr as usize)),
-                kind: DL,
-                record_size: 0,
-                invalidation_bytes: 0,
-                record_id_len: 0,
-            };
-            match list_links(file, blocks, links, w, block, count) {
-                Walked::Refused(e) => Entered::Refused(e),
-                Walked::On(w1) => Entered::List { w: w1, count },
-            }
-        }
-    }
+    let read = DataListBlock::parse(file, addr);
+    let DataListBlockRead::Block(list) = read else {
+        return no_list(read, w);
+    };
+    let count = list.links_nr as usize;
+    let block = Block {
+        offset: addr,
+        size: list.block_len,
+        mark: wide(read_u32(file, addr as usize)),
+        kind: DL,
+        record_size: 0,
+        invalidation_bytes: 0,
+        record_id_len: 0,
+    };
+    let r = list_links(file, blocks, links, w, block, count);
+    let Walked::On(w1) = r else {
+        return not_opened(r);
+    };
+    Entered::List { w: w1, count }
 }
 
 // All of a data list but what its links lead to; `depth` lists may still be entered.
@@ -315,10 +378,11 @@ pub fn enter_list(
             limit: MAX_LISTS,
         });
     }
-    match visit(visited, w, addr) {
-        Walked::Refused(e) => Entered::Refused(e),
-        Walked::On(w1) => open_list(file, blocks, links, w1, addr),
-    }
+    let r = visit(visited, w, addr);
+    let Walked::On(w1) = r else {
+        return not_opened(r);
+    };
+    open_list(file, blocks, links, w1, addr)
 }
 
 // The answer where no list was entered.
@@ -378,6 +442,50 @@ pub fn walk_data_region(
     )
 }
 
+// What the data links of a data list lead to, in order; `depth` lists may still be entered.
+fn walk_data_links(
+    file: &[u8],
+    visited: &mut [u64],
+    blocks: &mut [u64],
+    links: &mut [u64],
+    w: Walk,
+    addr: u64,
+    count: usize,
+    record_size: u64,
+    invalidation_bytes: u64,
+    record_id_len: u64,
+    depth: usize,
+) -> Walked
+    requires { ⌜ Within w (now visited) (now blocks) (now links) × (addr + 24 + 8 * count ≤ length (now file)) ⌝ }
+    ensures { λ r. ⌜ Met w r (now (visited .exit)) (now (blocks .exit)) (now (links .exit)) (said (links-from depth (layout «record_size» «invalidation_bytes» «record_id_len») addr count 1 (now (file .entry)) (held w (now (visited .entry)) (now (blocks .entry)) (now (links .entry))))) ⌝ }
+{
+    let mut i = 1;
+    let mut on = w;
+    while i < count {
+        let target = DataListBlock::data_link(file, addr, i as u64);
+        let found = make_link(file, target);
+        let r = walk_data_region(
+            file,
+            visited,
+            blocks,
+            links,
+            on,
+            target,
+            found,
+            record_size,
+            invalidation_bytes,
+            record_id_len,
+            depth,
+        );
+        let Walked::On(w1) = r else {
+            return r;
+        };
+        on = w1;
+        i += 1;
+    }
+    Walked::On(on)
+}
+
 // A data list and what its links lead to: the data links first, then next.
 fn walk_data_list(
     file: &[u8],
@@ -398,30 +506,23 @@ fn walk_data_list(
     let Entered::List { w: w1, count } = entered else {
         return not_entered(entered);
     };
-    let mut i = 1;
-    let mut on = w1;
-    while i < count {
-        let target = DataListBlock::data_link(file, addr, i as u64);
-        let found = make_link(file, target);
-        let r = walk_data_region(
-            file,
-            visited,
-            blocks,
-            links,
-            on,
-            target,
-            found,
-            record_size,
-            invalidation_bytes,
-            record_id_len,
-            depth - 1,
-        );
-        let Walked::On(w2) = r else {
-            return r;
-        };
-        on = w2;
-        i += 1;
-    }
+    let left = depth - 1;
+    let r = walk_data_links(
+        file,
+        visited,
+        blocks,
+        links,
+        w1,
+        addr,
+        count,
+        record_size,
+        invalidation_bytes,
+        record_id_len,
+        left,
+    );
+    let Walked::On(on) = r else {
+        return r;
+    };
     let next = DataListBlock::data_link(file, addr, 0);
     let found = make_link(file, next);
     walk_data_region(
@@ -435,6 +536,6 @@ fn walk_data_list(
         record_size,
         invalidation_bytes,
         record_id_len,
-        depth - 1,
+        left,
     )
 }

@@ -9,6 +9,10 @@ ghost use Rattle.mdf4.specs.Kinds.{shape, no-records};
 ghost use Rattle.mdf4.specs.Walk as walk;
 ghost use Rattle.walk_state.specs.Held.{held, said, state-of, Within, Met, Tells, Counted};
 ghost use Rattle.walk_blocks.specs.Sources.{walk-texts, enter-source};
+use crate::reads::no_header;
+use crate::reads::no_metadata;
+use crate::reads::no_source;
+use crate::reads::no_text;
 use blocks::common::BlockHeader;
 use blocks::common::HeaderRead;
 use blocks::common::wide;
@@ -70,13 +74,12 @@ fn enter_tx(file: &[u8], blocks: &mut [u64], links: &mut [u64], w: Walk, addr: u
     requires { ⌜ Counted w (now links) ⌝ }
     ensures { λ r. ⌜ ((v : List ℕ) → num (now (file .entry)) addr 4 ≡ shape TX .mark → Within w v (now (blocks .entry)) (now (links .entry)) → Met w r v (now (blocks .exit)) (now (links .exit)) (said (walk.enter TX addr (no-records 0) (now (file .entry)) (held w v (now (blocks .entry)) (now (links .entry)))))) ⌝ }
 {
-    match TextBlock::parse(file, addr) {
-        TextBlockRead::Refused(e) => Walked::Refused(e),
-        TextBlockRead::Block(text) => {
-            let block = plain_block(addr, text.block_len, TextBlock::ID, TX);
-            list_plain(file, blocks, links, w, block)
-        }
-    }
+    let read = TextBlock::parse(file, addr);
+    let TextBlockRead::Block(text) = read else {
+        return no_text(read, w);
+    };
+    let block = plain_block(addr, text.block_len, TextBlock::ID, TX);
+    list_plain(file, blocks, links, w, block)
 }
 
 // Reads and lists metadata.
@@ -84,13 +87,12 @@ fn enter_md(file: &[u8], blocks: &mut [u64], links: &mut [u64], w: Walk, addr: u
     requires { ⌜ Counted w (now links) ⌝ }
     ensures { λ r. ⌜ ((v : List ℕ) → num (now (file .entry)) addr 4 ≡ shape MD .mark → Within w v (now (blocks .entry)) (now (links .entry)) → Met w r v (now (blocks .exit)) (now (links .exit)) (said (walk.enter MD addr (no-records 0) (now (file .entry)) (held w v (now (blocks .entry)) (now (links .entry)))))) ⌝ }
 {
-    match MetadataBlock::parse(file, addr) {
-        MetadataBlockRead::Refused(e) => Walked::Refused(e),
-        MetadataBlockRead::Block(metadata) => {
-            let block = plain_block(addr, metadata.block_len, MetadataBlock::ID, MD);
-            list_plain(file, blocks, links, w, block)
-        }
-    }
+    let read = MetadataBlock::parse(file, addr);
+    let MetadataBlockRead::Block(metadata) = read else {
+        return no_metadata(read, w);
+    };
+    let block = plain_block(addr, metadata.block_len, MetadataBlock::ID, MD);
+    list_plain(file, blocks, links, w, block)
 }
 
 // Reads and lists a block of another kind, met by a text link.
@@ -98,13 +100,12 @@ fn enter_ut(file: &[u8], blocks: &mut [u64], links: &mut [u64], w: Walk, addr: u
     requires { ⌜ Counted w (now links) ⌝ }
     ensures { λ r. ⌜ ((v : List ℕ) → Within w v (now (blocks .entry)) (now (links .entry)) → Met w r v (now (blocks .exit)) (now (links .exit)) (said (walk.enter UT addr (no-records 0) (now (file .entry)) (held w v (now (blocks .entry)) (now (links .entry)))))) ⌝ }
 {
-    match BlockHeader::parse(file, addr, 24) {
-        HeaderRead::Refused(e) => Walked::Refused(e),
-        HeaderRead::Header(header) => {
-            let block = plain_block(addr, header.block_len, header.id, UT);
-            list_plain(file, blocks, links, w, block)
-        }
-    }
+    let read = BlockHeader::parse(file, addr, 24);
+    let HeaderRead::Header(header) = read else {
+        return no_header(read, w);
+    };
+    let block = plain_block(addr, header.block_len, header.id, UT);
+    list_plain(file, blocks, links, w, block)
 }
 
 // Lists the text at an address, its kind told by its mark.
@@ -194,20 +195,19 @@ fn enter_source(
     requires { ⌜ Within w (now visited) (now blocks) (now links) ⌝ }
     ensures { λ r. ⌜ Met w r (now (visited .exit)) (now (blocks .exit)) (now (links .exit)) (said (enter-source addr (now (file .entry)) (held w (now (visited .entry)) (now (blocks .entry)) (now (links .entry))))) ⌝ }
 {
-    match SourceBlock::parse(file, addr) {
-        SourceBlockRead::Refused(e) => Walked::Refused(e),
-        SourceBlockRead::Block(source) => {
-            let name = source.name_addr;
-            let path = source.path_addr;
-            let comment = source.comment_addr;
-            let block = plain_block(addr, source.block_len, SourceBlock::ID, SI);
-            let r = list_block(file, blocks, links, w, block, &[name, path, comment]);
-            let Walked::On(on) = r else {
-                return r;
-            };
-            walk_texts(file, visited, blocks, links, on, name, path, comment)
-        }
-    }
+    let read = SourceBlock::parse(file, addr);
+    let SourceBlockRead::Block(source) = read else {
+        return no_source(read, w);
+    };
+    let name = source.name_addr;
+    let path = source.path_addr;
+    let comment = source.comment_addr;
+    let block = plain_block(addr, source.block_len, SourceBlock::ID, SI);
+    let r = list_block(file, blocks, links, w, block, &[name, path, comment]);
+    let Walked::On(on) = r else {
+        return r;
+    };
+    walk_texts(file, visited, blocks, links, on, name, path, comment)
 }
 
 // Walks a source.

@@ -6,37 +6,32 @@ use Prim.Native.Nat.{ℕ}
 use lib.ListN.{length}
 use borrow.Author.Tests.{eq-eqb, ne-eqb}
 use Rattle.mdf4.specs.Bytes.{little, num, words}
-use Rattle.mdf4.specs.Act.{Refusal, ok, err, and-then, CN, State, Act, choose, pure, elem, visit, reason, _>>=_, _>>_}
+use Rattle.mdf4.specs.Act.{Refusal, ok, err, and-then, CN, State, choose, pure, elem, visit, reason, _>>=_, _>>_}
 use Rattle.mdf4.specs.Kinds.{shape, is, mark-in, no-records, records-in, read-block, make-link, name-link, name-head, name-check, name-ok}
 use Rattle.mdf4.specs.Walk.{content-ok, after-reading, enter, addr, link-of, walk-data-region, walk-channel}
 use Rattle.mdf4.proofs.Fuel.{once-seen}
 use Rattle.blocks.specs.declared.channel_block.ChannelBlock.{ChannelBlock}
+use Rattle.blocks.specs.declared.channel_block.ChannelBlockRead.{ChannelBlockRead}
+use Rattle.blocks.specs.declared.channel_block.ChannelBlockRead.the-variants.{Block}
 use Rattle.blocks.specs.declared.error.MdfError.{MdfError}
 use Rattle.blocks.specs.Errors.{numbers}
-use Rattle.blocks.specs.ChannelBlock.{channel-block-of}
+use Rattle.blocks.specs.Parse.{parsed}
+use Rattle.blocks.specs.ChannelBlock.{channel-block-of, channel-block-read}
+use Rattle.blocks.proofs.Parse.{parsed-ok}
+use Rattle.blocks.proofs.Told.{told-as}
 use Rattle.walk_state.specs.declared.Walk.{Walk}
-use Rattle.walk_state.specs.Held.{said, state-of, Tells}
+use Rattle.walk_state.specs.declared.Walked.{Walked}
+use Rattle.walk_state.specs.declared.Walked.the-variants as walked
+use Rattle.walk_state.specs.Held.{said, state-of, checked, Tells, Met}
 use Rattle.walk_blocks.specs.Regions.{layout}
-use Rattle.walk_blocks.proofs.Entering.{once-on, once-off, then-on, then-off, bind-off}
+use Rattle.walk_blocks.proofs.Entering.{once-on, once-off, then-on, first-off, bind-off, name-refused, enter-off as unlisted, enter-on as listed}
 use Rattle.walk_blocks.proofs.Reading.{plain, mark-own}
 use Rattle.walk_blocks.proofs.Walking.{mark-tested}
 use Rattle.walker.specs.declared.channels.Opened.{Opened}
 use Rattle.walker.specs.declared.channels.Opened.the-variants.{Channel, Refused as Unopened}
-use Rattle.walker.specs.Channels.{channel-source, channel-texts, channel-data, enter-channel, Entered, Open, Opens}
+use Rattle.walker.specs.Channels.{channel-source, channel-texts, channel-data, enter-channel, Entered, Open, Opens, to-opened}
 use Rattle.walker.proofs.Chaining.{reason-off}
-use Rattle.walker.proofs.Nexts.{link-is}
-
--- three steps in order
-module _ {A B C : Type 0} (m : Act A) (n : Act B) (k : Act C) (r : List ℕ) (s : State) where
-  pub first-off : (e : Refusal) → said (m r s) ≡ err e → said ((m >> n >> k) r s) ≡ err e
-  first-off e p = then-off (m >> n) k r s e (then-off m n r s e p)
-
-  module _ (s1 : State) (p : said (m r s) ≡ ok s1) where
-    pub second-off : (e : Refusal) → said (n r s1) ≡ err e → said ((m >> n >> k) r s) ≡ err e
-    second-off e q = then-off (m >> n) k r s e (ap said (then-on m n r s s1 p) ∙ q)
-
-    pub third : (s2 : State) → said (n r s1) ≡ ok s2 → (m >> n >> k) r s ≡ k r s2
-    third s2 q = then-on (m >> n) k r s s2 (ap said (then-on m n r s s1 p) ∙ q)
+use Rattle.walker.proofs.Nexts.{link-is, with-answer, answered}
 
 -- the targets of a channel's links
 abbrev pub targets-of : ChannelBlock → List ℕ
@@ -51,13 +46,18 @@ targets-of x =
     ∷ x .«comment_addr»
     ∷ []
 
-pub cn-content : (o : List ℕ) → content-ok CN o ≡ ok tt
+cn-content : (o : List ℕ) → content-ok CN o ≡ ok tt
 unfolding content-ok is shape
 cn-content o = refl
 
 cn-mark : (r : List ℕ) (a : ℕ) (o : List ℕ) → read-block CN r a ≡ ok o → 0x4e432323 ≡ num r a 4
 unfolding shape little
 cn-mark r a o e = sym (mark-tested CN r a o refl e)
+
+-- the own bytes of a channel that was read
+pub channel-read : (r : List ℕ) (a : ℕ) {y : ChannelBlockRead} {x : ChannelBlock} → y ≡ Block x → channel-block-read y ≡ parsed channel-block-of CN r a
+    → (o : List ℕ) × (read-block CN r a ≡ ok o) × (channel-block-of o ≡ x)
+channel-read r a e p = parsed-ok channel-block-of CN r a (sym (told-as channel-block-read e p))
 
 -- a channel that was read, with the own bytes o and the fields x
 module _ (r : List ℕ) (a : ℕ) (o : List ℕ) (x : ChannelBlock) (e : channel-block-of o ≡ x) where
@@ -89,10 +89,30 @@ module _ (r : List ℕ) (a : ℕ) (o : List ℕ) (x : ChannelBlock) (e : channel
   channel-row s = rw (← cn-targets)
 
   -- its name
-  pub channel-name : name-ok CN r (map (make-link r) (shape CN .targets o))
+  channel-name : name-ok CN r (map (make-link r) (shape CN .targets o))
       ≡ name-check (length r) (make-link r (x .«name_addr»)) (name-head r (make-link r (x .«name_addr»)))
   unfolding name-ok is shape name-link
   channel-name = rw (← cn-targets)
+
+  -- the test of its name answers y
+  module _ (q : read-block CN r a ≡ ok o) {y : Walked}
+      (p : checked y ≡ name-check (length r) (make-link r (x .«name_addr»)) (name-head r (make-link r (x .«name_addr»)))) where
+    named : {z : Walked} → y ≡ z → name-ok CN r (map (make-link r) (shape CN .targets o)) ≡ checked z
+    named d = channel-name ∙ sym (told-as checked d p)
+
+    pub channel-unnamed : (s : State) {e : MdfError} → y ≡ walked.Refused e → said (enter CN a (no-records 0) r s) ≡ err (numbers e)
+    channel-unnamed s d = name-refused CN a (no-records 0) r s o _ q (cn-content o) (named d)
+
+    -- its listing answers z
+    pub channel-opens : {w w' : Walk} {v b l : List ℕ} (s : State) → y ≡ walked.On w' → (z : Walked)
+        → Met w z v b l (state-of (after-reading CN a (no-records 0) s o (map (make-link r) (shape CN .targets o)) (ok tt))) → Opens w (to-opened z x) r a v b l s
+    channel-opens s d (walked.On w1) m = record {
+      is = record {
+        later = m .after;
+        entered = record { own = o; fields = e; says = listed CN a (no-records 0) r s o q (named d) _ (sym (m .says)) };
+      };
+    }
+    channel-opens s d (walked.Refused z) m = record { is = unlisted CN a (no-records 0) r s o q (named d) _ (sym (m .says)) }
 
 -- its own data
 module _ (x : ChannelBlock) (r : List ℕ) (s : State) where
@@ -127,15 +147,11 @@ module _ (a : ℕ) (r : List ℕ) (s : State) where
     texts-off e q =
         reason-off (enter-channel a r s) e (ap said (enter-on x s1 t) ∙ first-off (channel-texts a x) (channel-data x) (pure (x .«next_ch_addr», tt)) r s1 e q)
 
-    module _ (s2 : State) (p : said (channel-texts a x r s1) ≡ ok s2) where
-      pub data-off : (e : Refusal) → said (channel-data x r s2) ≡ err e → reason (enter-channel a r s) ≡ err e
-      data-off e q =
-          reason-off (enter-channel a r s) e
-          (ap said (enter-on x s1 t) ∙ second-off (channel-texts a x) (channel-data x) (pure (x .«next_ch_addr», tt)) r s1 s2 p e q)
-
-      pub data-on : (s3 : State) → said (channel-data x r s2) ≡ ok s3 → reason (enter-channel a r s) ≡ ok ((x .«next_ch_addr», tt), s3)
-      unfolding reason pure
-      data-on s3 q = ap reason (enter-on x s1 t ∙ third (channel-texts a x) (channel-data x) (pure (x .«next_ch_addr», tt)) r s1 s2 p s3 q)
+    pub data-last : (s2 : State) → said (channel-texts a x r s1) ≡ ok s2 → (n : ℕ) → n ≡ x .«next_ch_addr»
+        → reason (enter-channel a r s) ≡ with-answer (n, tt) (said (channel-data x r s2))
+    data-last s2 p n e =
+        let d = ap said (then-on (channel-texts a x) (channel-data x) r s1 s2 p) in
+        rw e (ap reason (enter-on x s1 t) ∙ answered (channel-texts a x >> channel-data x) _ r s1 ∙ ap (with-answer _) d)
 
 -- what the answer of `open_channel` tells
 module _ {w : Walk} {x : Opened} {r : List ℕ} {a : ℕ} {v b l : List ℕ} {s : State} where

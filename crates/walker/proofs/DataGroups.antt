@@ -27,7 +27,7 @@ use Rattle.walker.specs.declared.groups.ChannelGroups.the-variants as gr
 use Rattle.walker.specs.Groups.{handed, GroupsMet}
 use Rattle.walker.specs.DataGroups.{data-group-links, enter-data-group}
 use Rattle.walker.proofs.Chaining.{reason-off}
-use Rattle.walker.proofs.Nexts.{link-is}
+use Rattle.walker.proofs.Nexts.{link-is, with-answer, answered}
 
 -- the channel groups of a data group that go on, and ones that refuse
 pub record GroupsOn (w w1 : Walk) (h : RecordLayout) (v b l : List ℕ) (o : Result Stop (Handed × State)) : Type 0 where
@@ -73,11 +73,6 @@ module _ (fuel n comment first t : ℕ) (r : List ℕ) (s : State) where
     links-third h s2 q f g =
         rw (then-on (walk-text-like comment) groups-chain r s s1 p, ← (link-is r t f g))
         (handed-on (λ h. walk-data-region max-lists h (make-link r t)) r (groups-chain r s1) h s2 q)
-
--- a step that answers x behind another
-answer-on : {B : Type 0} (m : Act (Unit {0})) (x : B) (r : List ℕ) (s s' : State) → said (m r s) ≡ ok s' → reason ((m >> pure x) r s) ≡ ok (x, s')
-unfolding pure reason
-answer-on m x r s s' e = rw (then-on m (pure x) r s s' e)
 
 -- a data group that is not read, and what one that is tells
 pub group-refused : (fuel a : ℕ) (r : List ℕ) (s : State) {e : Refusal} → err e ≡ parsed data-group-block-of DG r a → reason (enter-data-group fuel a r s) ≡ err e
@@ -151,14 +146,9 @@ module _ (r : List ℕ) (a : ℕ) (b : DataGroupBlock) (t : GroupTold r a b) whe
       (group-entered fuel a r s (t .own) _ _ _ _ s'
       (enter-told DG a (no-records 0) r s (t .own) (group-targets b) (t .read) (t .targets) (simple-dg .name r _) s' q))
 
-  module _ (fuel : ℕ) (s s' : State) (q : group-row s ≡ ok s') where
-    pub group-parts-off : (e : Refusal) → group-parts fuel s' ≡ err e → reason (enter-data-group fuel a r s) ≡ err e
-    group-parts-off e p =
-        rw (group-on fuel s s' q)
-        (reason-off _ e (then-off _ (pure (b .«next_dg_addr», tt)) r s' e p))
-
-    pub group-parts-on : (s'' : State) → group-parts fuel s' ≡ ok s'' → reason (enter-data-group fuel a r s) ≡ ok ((b .«next_dg_addr», tt), s'')
-    group-parts-on s'' p = rw (group-on fuel s s' q) (answer-on _ (b .«next_dg_addr», tt) r s' s'' p)
+  pub group-last : (fuel : ℕ) (s s' : State) → group-row s ≡ ok s' → (n : ℕ) → n ≡ b .«next_dg_addr»
+      → reason (enter-data-group fuel a r s) ≡ with-answer (n, tt) (group-parts fuel s')
+  group-last fuel s s' q n e = rw e (ap reason (group-on fuel s s' q) ∙ answered _ _ r s')
 
 -- the definition's steps in a row, bracketed as the code has them
 assoc : {A B C : Type 0} (m : Result Stop A) (f : A → Result Stop B) (g : B → Result Stop C) → and-then m (λ p. and-then (f p) g) ≡ and-then (and-then m f) g

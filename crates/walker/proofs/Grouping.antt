@@ -19,18 +19,21 @@ use Rattle.blocks.specs.Parse.{parsed}
 use Rattle.blocks.specs.ChannelGroupBlock.{channel-group-block-of}
 use Rattle.blocks.proofs.Parse.{parsed-ok}
 use Rattle.walk_state.specs.declared.Walk.{Walk}
-use Rattle.walk_state.specs.Held.{held, said, state-of, Within, Tells}
+use Rattle.walk_state.specs.declared.Walked.{Walked}
+use Rattle.walk_state.specs.declared.Walked.the-variants as walked
+use Rattle.walk_state.specs.Held.{held, said, state-of, Within, Tells, Met}
 use Rattle.walk_blocks.specs.Regions.{layout}
 use Rattle.walk_blocks.proofs.Calls.{parsed-err}
-use Rattle.walk_blocks.proofs.Entering.{once-on, once-off, enter-refused, then-on, then-off, bind-off}
+use Rattle.walk_blocks.proofs.Entering.{once-on, once-off, enter-refused, then-on, then-off, first-off, second-off, third, bind-off}
 use Rattle.walk_blocks.proofs.Reading.{mark-own, enter-read, enter-told}
 use Rattle.walk_blocks.proofs.Walking.{mark-tested}
 use Rattle.walker.specs.declared.groups.Grouped.{Grouped}
 use Rattle.walker.specs.declared.groups.Grouped.the-variants as grouped
 use Rattle.walker.specs.declared.groups.ChannelGroups.the-variants as groups
-use Rattle.walker.specs.Chains.{GroupedAfter, GroupedMet}
+use Rattle.walker.specs.Chains.{GroupedAfter, GroupedMet, to-grouped}
 use Rattle.walker.specs.Groups.{GroupRead, channel-group-links, enter-channel-group, handed, GroupsMet}
 use Rattle.walker.proofs.Chaining.{Step, Goes, Refuses, reason-off}
+use Rattle.walker.proofs.Nexts.{with-answer, answered}
 
 -- a channel group that was parsed
 pub group-read : (r : List ℕ) (a : ℕ) {g : ChannelGroupBlock} → ok g ≡ parsed channel-group-block-of CG r a → (o : List ℕ) × GroupRead r a g o
@@ -103,14 +106,6 @@ links-walked : (fuel n a : ℕ) (got : Handed) (r : List ℕ) (s : State) (o : L
 unfolding enter-channel-group _>>=_ and-then addr link-of make-link shape words
 links-walked fuel n a got r s o s' e = rw e
 
-then-value : {A B : Type 0} (m : Act A) (x : B) (r : List ℕ) (s s' : State) → said (m r s) ≡ ok s' → (m >> pure x) r s ≡ ok (x, s')
-unfolding _>>_ and-then pure
-then-value {A} {B} m x r s s' e = go (m r s) e
-  where
-    go : (z : Result Stop (A × State)) → said z ≡ ok s' → and-then {B = B × State} z (λ p. ok (x, p .1)) ≡ ok (x, s')
-    go (ok p) q = let d : p .1 ≡ s' = cc in ap (λ (t : State). ok (x, t)) d
-    go (err z) q = never (sym q)
-
 module _ (fuel n a : ℕ) (got : Handed) (r : List ℕ) (s : State) where
   -- it is not read, or not listed
   pub group-unread : {e : Refusal} → err e ≡ parsed channel-group-block-of CG r a → reason (enter-channel-group fuel n a got r s) ≡ err e
@@ -122,22 +117,15 @@ module _ (fuel n a : ℕ) (got : Handed) (r : List ℕ) (s : State) where
   unfolding enter-channel-group
   group-unlisted p = reason-off _ _ (bind-off (enter CG a (no-records n)) _ r s _ p)
 
-  -- it is listed
-  module _ (g : ChannelGroupBlock) (o : List ℕ) (t : GroupRead r a g o) (s' : State) (p : said (enter CG a (no-records n) r s) ≡ ok s') where
-    pub group-off : {e : Refusal} → said (channel-group-links fuel (g .«acq_name_addr») (g .«acq_source_addr») (g .«comment_addr») (g .«first_ch_addr») r s') ≡ err e
-        → reason (enter-channel-group fuel n a got r s) ≡ err e
-    unfolding channel-group-block-of
-    group-off {e} q =
-        let q' : said (channel-group-links fuel (num o 40 8) (num o 48 8) (num o 64 8) (num o 32 8) r s') ≡ err e = rw (← t .fields) at q in
-        ap reason (links-walked fuel n a got r s o s' (entered r a g o t n s s' p)) ∙ reason-off _ _ (then-off _ _ r s' e q')
-
-    pub group-on : (s2 : State) → said (channel-group-links fuel (g .«acq_name_addr») (g .«acq_source_addr») (g .«comment_addr») (g .«first_ch_addr») r s') ≡ ok s2
-        → (size bytes : ℕ) → size ≡ n + g .«samples_byte_nr» + g .«invalidation_bytes_nr» → bytes ≡ g .«invalidation_bytes_nr»
-        → reason (enter-channel-group fuel n a got r s) ≡ ok ((g .«next_cg_addr», hand-down (layout size bytes n) got), s2)
-    unfolding channel-group-block-of cg-records reason
-    group-on s2 q size bytes es eb =
-        let q' : said (channel-group-links fuel (num o 40 8) (num o 48 8) (num o 64 8) (num o 32 8) r s') ≡ ok s2 = rw (← t .fields) at q in
-        rw (es, eb, ← t .fields) (ap reason (links-walked fuel n a got r s o s' (entered r a g o t n s s' p) ∙ then-value _ _ r s' s2 q'))
+  -- it is listed: its links are walked last
+  pub group-last : (g : ChannelGroupBlock) (o : List ℕ) → GroupRead r a g o → (s' : State) → said (enter CG a (no-records n) r s) ≡ ok s'
+      → (size bytes : ℕ) → size ≡ n + g .«samples_byte_nr» + g .«invalidation_bytes_nr» → bytes ≡ g .«invalidation_bytes_nr»
+      → reason (enter-channel-group fuel n a got r s)
+      ≡ with-answer (g .«next_cg_addr», hand-down (layout size bytes n) got)
+      (said (channel-group-links fuel (g .«acq_name_addr») (g .«acq_source_addr») (g .«comment_addr») (g .«first_ch_addr») r s'))
+  unfolding channel-group-block-of cg-records
+  group-last g o t s' p size bytes es eb =
+      rw (es, eb, ← t .fields) (ap reason (links-walked fuel n a got r s o s' (entered r a g o t n s s' p)) ∙ answered _ _ r s')
 
   -- its offset was visited, or is marked
   pub group-seen : elem a (s .visited) ≡ true → reason (walk-channel-group fuel n a got r s) ≡ ok ((0, hand-down (layout 0 0 n) got), s)
@@ -156,46 +144,50 @@ module _ (fuel n a : ℕ) (got : Handed) (r : List ℕ) (s : State) where
 
 -- what its links lead to, in order
 module _ (fuel x y z c : ℕ) (r : List ℕ) (s : State) where
-  abbrev two : Act (Unit {0})
-  two = walk-text-like x >> walk-source y
-
   abbrev texts : Act (Unit {0})
-  texts = two >> walk-text-like z
+  texts = walk-text-like x >> walk-source y >> walk-text-like z
 
   pub links-first : {e : Refusal} → said (walk-text-like x r s) ≡ err e → said (channel-group-links fuel x y z c r s) ≡ err e
   unfolding channel-group-links
   links-first {e} p =
-      then-off texts (chain fuel walk-channel c tt) r s e (then-off two (walk-text-like z) r s e (then-off (walk-text-like x) (walk-source y) r s e p))
+      then-off texts (chain fuel walk-channel c tt) r s e (first-off (walk-text-like x) (walk-source y) (walk-text-like z) r s e p)
 
   module _ (s1 : State) (p : said (walk-text-like x r s) ≡ ok s1) where
     pub links-second : {e : Refusal} → said (walk-source y r s1) ≡ err e → said (channel-group-links fuel x y z c r s) ≡ err e
     unfolding channel-group-links
     links-second {e} q =
-        then-off texts (chain fuel walk-channel c tt) r s e (then-off two (walk-text-like z) r s e (ap said (then-on (walk-text-like x) (walk-source y) r s s1 p) ∙ q))
+        then-off texts (chain fuel walk-channel c tt) r s e (second-off (walk-text-like x) (walk-source y) (walk-text-like z) r s s1 p e q)
 
     module _ (s2 : State) (q : said (walk-source y r s1) ≡ ok s2) where
       pub links-third : {e : Refusal} → said (walk-text-like z r s2) ≡ err e → said (channel-group-links fuel x y z c r s) ≡ err e
       unfolding channel-group-links
       links-third {e} h =
-          then-off texts (chain fuel walk-channel c tt) r s e (ap said (then-on two (walk-text-like z) r s s2 (ap said (then-on (walk-text-like x) (walk-source y) r s s1 p) ∙ q)) ∙ h)
+          then-off texts (chain fuel walk-channel c tt) r s e (ap said (third (walk-text-like x) (walk-source y) (walk-text-like z) r s s1 p s2 q) ∙ h)
 
       pub links-last : (s3 : State) → said (walk-text-like z r s2) ≡ ok s3 → said (channel-group-links fuel x y z c r s) ≡ said (chain fuel walk-channel c tt r s3)
       unfolding channel-group-links
       links-last s3 h =
-          ap said (then-on texts (chain fuel walk-channel c tt) r s s3 (ap said (then-on two (walk-text-like z) r s s2 (ap said (then-on (walk-text-like x) (walk-source y) r s s1 p) ∙ q)) ∙ h))
+          ap said (then-on texts (chain fuel walk-channel c tt) r s s3 (ap said (third (walk-text-like x) (walk-source y) (walk-text-like z) r s s1 p s2 q) ∙ h))
 
 -- the ways to answer: go on, refuse, hand a last callee's answer up
 after-from : (w w1 : Walk) (v b l : List ℕ) (x : Grouped) → w .visited ≤ w1 .visited → GroupedAfter w1 x v b l → GroupedAfter w x v b l
 after-from w w1 v b l (grouped.To w2 n s i) h a = record { within = a .within; grew = omega (arith, a .grew) }
 after-from w w1 v b l (grouped.Refused e) h a = tt
 
+-- a callee's answer with the address of the next group and the record layout
+pub grouped-met : {w : Walk} {n : ℕ} {got : Handed} {v b l : List ℕ} {o : Out State} (r : Walked) (next s i : ℕ) → Met w r v b l o
+    → GroupedMet w n got (to-grouped r next s i) v b l (with-answer (next, hand-down (layout s i n) got) o)
+unfolding with-answer
+grouped-met (walked.On w1) next s i m = record { says = ap (with-answer _) (m .says); after = m .after }
+grouped-met (walked.Refused e) next s i m = record { says = ap (with-answer _) (m .says); after = tt }
+
 module _ {w : Walk} {n : ℕ} {got : Handed} {v b l : List ℕ} {o : Out ((ℕ × Handed) × State)} where
   pub grouped-go : {w1 : Walk} {next s i : ℕ} → Within w1 v b l → w .visited ≤ w1 .visited → o ≡ ok ((next, hand-down (layout s i n) got), held w1 v b l)
       → GroupedMet w n got (grouped.To w1 next s i) v b l o
   grouped-go h g e = record { says = sym e; after = record { within = h; grew = g } }
 
-  pub grouped-stop : {e : MdfError} → o ≡ err (numbers e) → GroupedMet w n got (grouped.Refused e) v b l o
-  grouped-stop p = record { says = sym p; after = tt }
+  pub grouped-stop : {x : Grouped} {e : MdfError} → x ≡ grouped.Refused e → o ≡ err (numbers e) → GroupedMet w n got x v b l o
+  grouped-stop q p = rw q (record { says = sym p; after = tt })
 
   pub grouped-last : {w1 : Walk} {x : Grouped} {o1 : Out ((ℕ × Handed) × State)} → GroupedMet w1 n got x v b l o1 → w .visited ≤ w1 .visited → o ≡ o1
       → GroupedMet w n got x v b l o

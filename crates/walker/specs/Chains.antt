@@ -6,6 +6,8 @@ use Rattle.mdf4.specs.Act.{Out, ok, err, State}
 use Rattle.mdf4.specs.Walk.{Handed, hand-down}
 use Rattle.blocks.specs.Errors.{numbers}
 use Rattle.walk_state.specs.declared.Walk.{Walk}
+use Rattle.walk_state.specs.declared.Walked.{Walked}
+use Rattle.walk_state.specs.declared.Walked.the-variants.{On, Refused}
 use Rattle.walk_state.specs.Held.{held, Later}
 use Rattle.walk_blocks.specs.Regions.{layout}
 use Rattle.walker.specs.declared.channels.Next.{Next}
@@ -27,6 +29,11 @@ pub record NextMet (w : Walk) (x : Next) (v b l : List ℕ) (o : Out ((ℕ × Un
   pub says : next-said x v b l ≡ o
   pub after : NextAfter w x v b l
 
+-- the walk's answer with the address n of the next block
+abbrev pub to-next : Walked → ℕ → Next
+to-next (On w) n = next.To w n
+to-next (Refused e) n = next.Refused e
+
 -- a channel group, with the record layout it hands down to its data group, whose records have ids of `id-len` bytes
 abbrev pub grouped-said : ℕ → Handed → Grouped → List ℕ → List ℕ → List ℕ → Out ((ℕ × Handed) × State)
 grouped-said id-len got (grouped.To w n s i) v b l = ok ((n, hand-down (layout s i id-len) got), held w v b l)
@@ -39,3 +46,8 @@ GroupedAfter w (grouped.Refused e) v b l = Unit {0}
 pub record GroupedMet (w : Walk) (id-len : ℕ) (got : Handed) (x : Grouped) (v b l : List ℕ) (o : Out ((ℕ × Handed) × State)) : Type 0 where
   pub says : grouped-said id-len got x v b l ≡ o
   pub after : GroupedAfter w x v b l
+
+-- the walk's answer with the address n of the next group, the record size s and i invalidation bytes
+abbrev pub to-grouped : Walked → ℕ → ℕ → ℕ → Grouped
+to-grouped (On w) n s i = grouped.To w n s i
+to-grouped (Refused e) n s i = grouped.Refused e

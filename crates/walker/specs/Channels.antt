@@ -10,8 +10,14 @@ use Rattle.mdf4.specs.Walk.{enter, addr, link-of, walk-text-like, walk-source, 
 use Rattle.blocks.specs.Errors.{numbers}
 use Rattle.blocks.specs.ChannelBlock.{channel-block-of}
 use Rattle.blocks.specs.declared.channel_block.ChannelBlock.{ChannelBlock}
+use Rattle.blocks.specs.declared.channel_block.ChannelBlockRead.{ChannelBlockRead}
+use Rattle.blocks.specs.declared.channel_block.ChannelBlockRead.the-variants as read
 use Rattle.walk_state.specs.declared.Walk.{Walk}
+use Rattle.walk_state.specs.declared.Walked.{Walked}
+use Rattle.walk_state.specs.declared.Walked.the-variants as walked
 use Rattle.walk_state.specs.Held.{held, said, Later}
+use Rattle.walker.specs.declared.channels.Next.{Next}
+use Rattle.walker.specs.declared.channels.Next.the-variants as next
 use Rattle.walker.specs.declared.channels.Opened.{Opened}
 use Rattle.walker.specs.declared.channels.Opened.the-variants.{Channel, Refused}
 
@@ -52,3 +58,18 @@ OpenAs w (Refused e) r a v b l s = said (enter CN a (no-records 0) r s) ≡ err 
 -- an answer x from w on, at which the tables hold s, with the tables v, b and l left
 pub record Opens (w : Walk) (x : Opened) (r : List ℕ) (a : ℕ) (v b l : List ℕ) (s : State) : Type 0 where
   pub is : OpenAs w x r a v b l s
+
+-- the answer where no channel was read
+abbrev pub no-channel : ChannelBlockRead → Walk → Opened
+no-channel (read.Block x) w = Channel w x
+no-channel (read.Refused e) w = Refused e
+
+-- the answer where a channel with the fields x was read, by that of its name or of its listing
+abbrev pub to-opened : Walked → ChannelBlock → Opened
+to-opened (walked.On w) x = Channel w x
+to-opened (walked.Refused e) x = Refused e
+
+-- the answer where no channel was listed
+abbrev pub unopened : Opened → Next
+unopened (Channel w x) = next.To w 0
+unopened (Refused e) = next.Refused e

@@ -5,6 +5,16 @@ use Rattle.mdf4.specs.Bytes.{num}
 use Rattle.mdf4.specs.Act.{DG, Link, Act, pure, _>>=_, _>>_, chain}
 use Rattle.mdf4.specs.Kinds.{no-records}
 use Rattle.mdf4.specs.Walk.{enter, addr, link-of, walk-text-like, walk-channel-group, walk-data-region, max-lists}
+use Rattle.blocks.specs.declared.data_group_block.DataGroupBlockRead.{DataGroupBlockRead}
+use Rattle.blocks.specs.declared.data_group_block.DataGroupBlockRead.the-variants as read
+use Rattle.walk_state.specs.declared.Walk.{Walk}
+use Rattle.walker.specs.declared.channels.Next.{Next}
+use Rattle.walker.specs.declared.channels.Next.the-variants as next
+
+-- the answer where no data group was read
+abbrev pub no-data-group : DataGroupBlockRead → Walk → Next
+no-data-group (read.Block g) w = next.To w 0
+no-data-group (read.Refused e) w = next.Refused e
 
 -- its comment, its channel groups, then its data; its records have ids of `id-len` bytes
 unfoldable pub data-group-links : ℕ → ℕ → ℕ → ℕ → Link → Act (Unit {0})

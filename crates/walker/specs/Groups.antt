@@ -7,10 +7,16 @@ use Rattle.mdf4.specs.Kinds.{RecordLayout, no-records, cg-records, read-block}
 use Rattle.mdf4.specs.Walk.{Handed, hand-down, enter, addr, walk-text-like, walk-source, walk-channel}
 use Rattle.blocks.specs.Errors.{numbers}
 use Rattle.blocks.specs.declared.channel_group_block.ChannelGroupBlock.{ChannelGroupBlock}
+use Rattle.blocks.specs.declared.channel_group_block.ChannelGroupBlockRead.{ChannelGroupBlockRead}
+use Rattle.blocks.specs.declared.channel_group_block.ChannelGroupBlockRead.the-variants as read
 use Rattle.blocks.specs.ChannelGroupBlock.{channel-group-block-of}
 use Rattle.walk_state.specs.declared.Walk.{Walk}
+use Rattle.walk_state.specs.declared.Walked.{Walked}
+use Rattle.walk_state.specs.declared.Walked.the-variants as walked
 use Rattle.walk_state.specs.Held.{held, Later}
 use Rattle.walk_blocks.specs.Regions.{layout}
+use Rattle.walker.specs.declared.groups.Grouped.{Grouped}
+use Rattle.walker.specs.declared.groups.Grouped.the-variants as grouped
 use Rattle.walker.specs.declared.groups.ChannelGroups.{ChannelGroups}
 use Rattle.walker.specs.declared.groups.ChannelGroups.the-variants as groups
 
@@ -18,6 +24,11 @@ use Rattle.walker.specs.declared.groups.ChannelGroups.the-variants as gr
 pub record GroupRead (r : List ℕ) (a : ℕ) (g : ChannelGroupBlock) (o : List ℕ) : Type 0 where
   pub read : read-block CG r a ≡ ok o
   pub fields : channel-group-block-of o ≡ g
+
+-- the answer where no channel group was read
+abbrev pub no-channel-group : ChannelGroupBlockRead → Walk → Grouped
+no-channel-group (read.Block g) w = grouped.To w 0 0 0
+no-channel-group (read.Refused e) w = grouped.Refused e
 
 -- its acquisition name, source and comment, then its channels
 unfoldable pub channel-group-links : ℕ → ℕ → ℕ → ℕ → ℕ → Act (Unit {0})
@@ -46,3 +57,8 @@ GroupsAfter w (groups.Refused e) v b l = Unit {0}
 pub record GroupsMet (w : Walk) (id-len : ℕ) (x : ChannelGroups) (v b l : List ℕ) (o : Result Stop (Handed × State)) : Type 0 where
   pub says : groups-said id-len x v b l ≡ handed o
   pub after : GroupsAfter w x v b l
+
+-- their answer without the record layout
+abbrev pub without-layout : ChannelGroups → Walked
+without-layout (groups.On w s i) = walked.On w
+without-layout (groups.Refused e) = walked.Refused e

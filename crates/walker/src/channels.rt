@@ -8,8 +8,8 @@ ghost use Rattle.mdf4.specs.Kinds as kinds;
 ghost use Rattle.mdf4.specs.Walk as walk;
 ghost use Rattle.blocks.specs.ChannelBlock.{channel-block-of};
 ghost use Rattle.walk_state.specs.Held.{held, said, state-of, checked, Within, Met, Counted};
-ghost use Rattle.walker.specs.Chains.{NextMet};
-ghost use Rattle.walker.specs.Channels.{channel-source, channel-texts, channel-data, enter-channel, Opens};
+ghost use Rattle.walker.specs.Chains.{NextMet, to-next};
+ghost use Rattle.walker.specs.Channels.{channel-source, channel-texts, channel-data, enter-channel, Opens, no-channel, to-opened, unopened};
 use blocks::channel_block::ChannelBlock;
 use blocks::channel_block::ChannelBlockRead;
 use blocks::error::MdfError;
@@ -42,21 +42,61 @@ pub enum Next {
     Refused(MdfError),
 }
 
+// A step's answer: the address of the next block where the walk goes on.
+pub(crate) fn to_next(r: Walked, next: u64) -> Next
+    ensures { λ x. ⌜ x ≡ to-next r next ⌝ }
+{
+    match r {
+        Walked::On(w) => Next::To { w, next },
+        Walked::Refused(e) => Next::Refused(e),
+    }
+}
+
 // A channel that was listed, or that refuses.
 pub enum Opened {
     Channel { w: Walk, channel: ChannelBlock },
     Refused(MdfError),
 }
 
+// The answer where no channel was read.
+fn no_channel(read: ChannelBlockRead, w: Walk) -> Opened
+    ensures { λ x. ⌜ x ≡ no-channel read w ⌝ }
+{
+    match read {
+        ChannelBlockRead::Block(channel) => Opened::Channel { w, channel },
+        ChannelBlockRead::Refused(e) => Opened::Refused(e),
+    }
+}
+
+// A channel's answer: its fields, where the walk goes on.
+fn to_opened(r: Walked, channel: ChannelBlock) -> Opened
+    ensures { λ x. ⌜ x ≡ to-opened r channel ⌝ }
+{
+    match r {
+        Walked::On(w) => Opened::Channel { w, channel },
+        Walked::Refused(e) => Opened::Refused(e),
+    }
+}
+
+// The answer where no channel was listed.
+fn unopened(r: Opened) -> Next
+    ensures { λ x. ⌜ x ≡ unopened r ⌝ }
+{
+    match r {
+        Opened::Channel { w, channel: _ } => Next::To { w, next: 0 },
+        Opened::Refused(e) => Next::Refused(e),
+    }
+}
+
 // Whether a channel's name is accepted.
 fn check_name(file: &[u8], w: Walk, addr: u64) -> Walked
     ensures { λ r. ⌜ checked r ≡ kinds.name-check (length (now (file .entry))) (kinds.make-link (now (file .entry)) addr) (kinds.name-head (now (file .entry)) (kinds.make-link (now (file .entry)) addr)) ⌝ }
 {
-    match read_text_at(file, addr) {
-        NameRead::Text { from: _, to: _ } => Walked::On(w),
-        NameRead::None => Walked::On(w),
-        NameRead::Refused(e) => Walked::Refused(e),
-    }
+    let read = read_text_at(file, addr);
+    let NameRead::Refused(e) = read else {
+        return Walked::On(w);
+    };
+    Walked::Refused(e)
 }
 
 // Lists a channel whose name is accepted.
@@ -90,20 +130,16 @@ fn open_channel(file: &[u8], blocks: &mut [u64], links: &mut [u64], w: Walk, add
     requires { ⌜ Counted w (now links) ⌝ }
     ensures { λ r. ⌜ ((v : List ℕ) → Within w v (now (blocks .entry)) (now (links .entry)) → Opens w r (now (file .entry)) addr v (now (blocks .exit)) (now (links .exit)) (held w v (now (blocks .entry)) (now (links .entry)))) ⌝ }
 {
-    match ChannelBlock::parse(file, addr) {
-        ChannelBlockRead::Refused(e) => Opened::Refused(e),
-        ChannelBlockRead::Block(channel) => {
-            match check_name(file, w, channel.name_addr) {
-                Walked::Refused(e) => Opened::Refused(e),
-                Walked::On(_) => {
-                    match list_channel(file, blocks, links, w, addr, channel) {
-                        Walked::Refused(e) => Opened::Refused(e),
-                        Walked::On(w1) => Opened::Channel { w: w1, channel },
-                    }
-                }
-            }
-        }
-    }
+    let read = ChannelBlock::parse(file, addr);
+    let ChannelBlockRead::Block(channel) = read else {
+        return no_channel(read, w);
+    };
+    let r1 = check_name(file, w, channel.name_addr);
+    let Walked::On(_) = r1 else {
+        return to_opened(r1, channel);
+    };
+    let r2 = list_channel(file, blocks, links, w, addr, channel);
+    to_opened(r2, channel)
 }
 
 // Walks a channel's name, source and conversion.
@@ -198,23 +234,16 @@ fn enter_channel(
     requires { ⌜ Within w (now visited) (now blocks) (now links) ⌝ }
     ensures { λ r. ⌜ NextMet w r (now (visited .exit)) (now (blocks .exit)) (now (links .exit)) (spec.reason (enter-channel addr (now (file .entry)) (held w (now (visited .entry)) (now (blocks .entry)) (now (links .entry))))) ⌝ }
 {
-    match open_channel(file, blocks, links, w, addr) {
-        Opened::Refused(e) => Next::Refused(e),
-        Opened::Channel { w: w1, channel } => {
-            match walk_channel_texts(file, visited, blocks, links, w1, addr, channel) {
-                Walked::Refused(e) => Next::Refused(e),
-                Walked::On(w2) => {
-                    match walk_channel_data(file, visited, blocks, links, w2, channel) {
-                        Walked::Refused(e) => Next::Refused(e),
-                        Walked::On(w3) => Next::To {
-                            w: w3,
-                            next: channel.next_ch_addr,
-                        },
-                    }
-                }
-            }
-        }
-    }
+    let r = open_channel(file, blocks, links, w, addr);
+    let Opened::Channel { w: w1, channel } = r else {
+        return unopened(r);
+    };
+    let r1 = walk_channel_texts(file, visited, blocks, links, w1, addr, channel);
+    let Walked::On(w2) = r1 else {
+        return to_next(r1, 0);
+    };
+    let r2 = walk_channel_data(file, visited, blocks, links, w2, channel);
+    to_next(r2, channel.next_ch_addr)
 }
 
 // Walks a channel: its name, source, conversion, unit and comment, and its own data.
@@ -232,8 +261,9 @@ pub fn walk_channel(
     if seen(visited, w.visited, addr) {
         return Next::To { w, next: 0 };
     }
-    match visit(visited, w, addr) {
-        Walked::Refused(e) => Next::Refused(e),
-        Walked::On(w1) => enter_channel(file, visited, blocks, links, w1, addr),
-    }
+    let r = visit(visited, w, addr);
+    let Walked::On(w1) = r else {
+        return to_next(r, 0);
+    };
+    enter_channel(file, visited, blocks, links, w1, addr)
 }

@@ -7,8 +7,10 @@ ghost use Rattle.mdf4.specs.Kinds.{make-link};
 ghost use Rattle.mdf4.specs.Walk as walk;
 ghost use Rattle.walk_state.specs.Held.{held, said, Within, Met};
 ghost use Rattle.walker.specs.Chains.{NextMet};
-ghost use Rattle.walker.specs.DataGroups.{data-group-links, enter-data-group};
+ghost use Rattle.walker.specs.Groups.{without-layout};
+ghost use Rattle.walker.specs.DataGroups.{data-group-links, enter-data-group, no-data-group};
 use crate::channels::Next;
+use crate::channels::to_next;
 use crate::groups::ChannelGroups;
 use crate::groups::walk_channel_groups;
 use blocks::data_group_block::DataGroupBlock;
@@ -29,6 +31,20 @@ const DG: u64 = 3;
 // How many data lists may be entered and not left.
 const MAX_LISTS: usize = 512;
 
+// What channel groups answer, without the record layout that they hand down.
+fn without_layout(r: ChannelGroups) -> Walked
+    ensures { λ x. ⌜ x ≡ without-layout r ⌝ }
+{
+    match r {
+        ChannelGroups::On {
+            w,
+            record_size: _,
+            invalidation_bytes: _,
+        } => Walked::On(w),
+        ChannelGroups::Refused(e) => Walked::Refused(e),
+    }
+}
+
 // Walks what a data group's links lead to: its comment, its channel groups, then its data.
 fn walk_data_group_links(
     file: &[u8],
@@ -41,41 +57,44 @@ fn walk_data_group_links(
     requires { ⌜ Within w (now visited) (now blocks) (now links) ⌝ }
     ensures { λ r. ⌜ ((fuel : ℕ) → length (now (visited .entry)) ≤ fuel → Met w r (now (visited .exit)) (now (blocks .exit)) (now (links .exit)) (said (data-group-links fuel (group .«record_id_len») (group .«comment_addr») (group .«first_cg_addr») (make-link (now (file .entry)) (group .«data_block_addr»)) (now (file .entry)) (held w (now (visited .entry)) (now (blocks .entry)) (now (links .entry)))))) ⌝ }
 {
-    let r = walk_text_like(file, visited, blocks, links, w, group.comment_addr);
-    let Walked::On(w1) = r else {
-        return r;
+    let r1 = walk_text_like(file, visited, blocks, links, w, group.comment_addr);
+    let Walked::On(w1) = r1 else {
+        return r1;
     };
-    match walk_channel_groups(
+    let first = group.first_cg_addr;
+    let r2 = walk_channel_groups(file, visited, blocks, links, w1, first, group.record_id_len);
+    let ChannelGroups::On {
+        w: w2,
+        record_size,
+        invalidation_bytes,
+    } = r2
+    else {
+        return without_layout(r2);
+    };
+    let at = group.data_block_addr;
+    let found = make_link(file, at);
+    walk_data_region(
         file,
         visited,
         blocks,
         links,
-        w1,
-        group.first_cg_addr,
-        group.record_id_len,
-    ) {
-        ChannelGroups::Refused(e) => Walked::Refused(e),
-        ChannelGroups::On {
-            w: w2,
-            record_size,
-            invalidation_bytes,
-        } => {
-            let at = group.data_block_addr;
-            let found = make_link(file, at);
-            walk_data_region(
-                file,
-                visited,
-                blocks,
-                links,
-                w2,
-                at,
-                found,
-                record_size,
-                invalidation_bytes,
-                group.record_id_len as u64,
-                MAX_LISTS,
-            )
-        }
+        w2,
+        at,
+        found,
+        record_size,
+        invalidation_bytes,
+        group.record_id_len as u64,
+        MAX_LISTS,
+    )
+}
+
+// The answer where no data group was read.
+fn no_data_group(read: DataGroupBlockRead, w: Walk) -> Next
+    ensures { λ x. ⌜ x ≡ no-data-group read w ⌝ }
+{
+    match read {
+        DataGroupBlockRead::Block(_) => Next::To { w, next: 0 },
+        DataGroupBlockRead::Refused(e) => Next::Refused(e),
     }
 }
 
@@ -91,33 +110,24 @@ fn enter_data_group(
     requires { ⌜ Within w (now visited) (now blocks) (now links) ⌝ }
     ensures { λ r. ⌜ ((fuel : ℕ) → length (now (visited .entry)) ≤ fuel → NextMet w r (now (visited .exit)) (now (blocks .exit)) (now (links .exit)) (spec.reason (enter-data-group fuel addr (now (file .entry)) (held w (now (visited .entry)) (now (blocks .entry)) (now (links .entry)))))) ⌝ }
 {
-    match DataGroupBlock::parse(file, addr) {
-        DataGroupBlockRead::Refused(e) => Next::Refused(e),
-        DataGroupBlockRead::Block(group) => {
-            let next = group.next_dg_addr;
-            let targets = [
-                next,
-                group.first_cg_addr,
-                group.data_block_addr,
-                group.comment_addr,
-            ];
-            let block = plain_block(addr, group.block_len, DataGroupBlock::ID, DG);
-            match list_block(file, blocks, links, w, block, &targets) {
-                Walked::Refused(e) => Next::Refused(e),
-                Walked::On(on) => match walk_data_group_links(
-                    file,
-                    visited,
-                    blocks,
-                    links,
-                    on,
-                    group,
-                ) {
-                    Walked::Refused(e) => Next::Refused(e),
-                    Walked::On(done) => Next::To { w: done, next },
-                },
-            }
-        }
-    }
+    let read = DataGroupBlock::parse(file, addr);
+    let DataGroupBlockRead::Block(group) = read else {
+        return no_data_group(read, w);
+    };
+    let next = group.next_dg_addr;
+    let targets = [
+        next,
+        group.first_cg_addr,
+        group.data_block_addr,
+        group.comment_addr,
+    ];
+    let block = plain_block(addr, group.block_len, DataGroupBlock::ID, DG);
+    let r1 = list_block(file, blocks, links, w, block, &targets);
+    let Walked::On(w1) = r1 else {
+        return to_next(r1, 0);
+    };
+    let r2 = walk_data_group_links(file, visited, blocks, links, w1, group);
+    to_next(r2, next)
 }
 
 // Walks a data group: its comment, its channel groups, then its data.
@@ -135,10 +145,11 @@ pub fn walk_data_group(
     if seen(visited, w.visited, addr) {
         return Next::To { w, next: 0 };
     }
-    match visit(visited, w, addr) {
-        Walked::Refused(e) => Next::Refused(e),
-        Walked::On(on) => enter_data_group(file, visited, blocks, links, on, addr),
-    }
+    let r = visit(visited, w, addr);
+    let Walked::On(on) = r else {
+        return to_next(r, 0);
+    };
+    enter_data_group(file, visited, blocks, links, on, addr)
 }
 
 // Walks the chain of data groups.

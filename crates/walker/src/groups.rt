@@ -8,8 +8,8 @@ ghost use Rattle.mdf4.specs.Act as spec;
 ghost use Rattle.mdf4.specs.Walk as walk;
 ghost use Rattle.mdf4.specs.Kinds.{no-records};
 ghost use Rattle.walk_state.specs.Held.{held, said, Within, Met, Counted};
-ghost use Rattle.walker.specs.Chains.{GroupedMet};
-ghost use Rattle.walker.specs.Groups.{GroupRead, channel-group-links, enter-channel-group, GroupsMet};
+ghost use Rattle.walker.specs.Chains.{GroupedMet, to-grouped};
+ghost use Rattle.walker.specs.Groups.{GroupRead, channel-group-links, enter-channel-group, no-channel-group, GroupsMet};
 use crate::channels::Next;
 use crate::channels::walk_channel;
 use blocks::channel_group_block::ChannelGroupBlock;
@@ -147,6 +147,36 @@ fn walk_channel_group_links(
     walk_channels(file, visited, blocks, links, w3, group.first_ch_addr)
 }
 
+// The answer where no channel group was read.
+fn no_channel_group(read: ChannelGroupBlockRead, w: Walk) -> Grouped
+    ensures { λ x. ⌜ x ≡ no-channel-group read w ⌝ }
+{
+    match read {
+        ChannelGroupBlockRead::Block(_) => Grouped::To {
+            w,
+            next: 0,
+            record_size: 0,
+            invalidation_bytes: 0,
+        },
+        ChannelGroupBlockRead::Refused(e) => Grouped::Refused(e),
+    }
+}
+
+// A channel group's answer: the address of the next one and its record layout, where the walk goes on.
+fn to_grouped(r: Walked, next: u64, record_size: u64, invalidation_bytes: u64) -> Grouped
+    ensures { λ x. ⌜ x ≡ to-grouped r next «record_size» «invalidation_bytes» ⌝ }
+{
+    match r {
+        Walked::On(w) => Grouped::To {
+            w,
+            next,
+            record_size,
+            invalidation_bytes,
+        },
+        Walked::Refused(e) => Grouped::Refused(e),
+    }
+}
+
 // Reads and lists a channel group, then walks what its links lead to.
 fn enter_channel_group(
     file: &[u8],
@@ -160,29 +190,18 @@ fn enter_channel_group(
     requires { ⌜ Within w (now visited) (now blocks) (now links) ⌝ }
     ensures { λ r. ⌜ ((fuel : ℕ) (got : walk.Handed) → length (now (visited .entry)) ≤ fuel → GroupedMet w «record_id_len» got r (now (visited .exit)) (now (blocks .exit)) (now (links .exit)) (spec.reason (enter-channel-group fuel «record_id_len» addr got (now (file .entry)) (held w (now (visited .entry)) (now (blocks .entry)) (now (links .entry)))))) ⌝ }
 {
-    match ChannelGroupBlock::parse(file, addr) {
-        ChannelGroupBlockRead::Refused(e) => Grouped::Refused(e),
-        ChannelGroupBlockRead::Block(group) => {
-            match list_channel_group(file, blocks, links, w, addr, record_id_len, group) {
-                Walked::Refused(e) => Grouped::Refused(e),
-                Walked::On(w1) => {
-                    match walk_channel_group_links(file, visited, blocks, links, w1, group) {
-                        Walked::Refused(e) => Grouped::Refused(e),
-                        Walked::On(w2) => Grouped::To {
-                            w: w2,
-                            next: group.next_cg_addr,
-                            record_size: record_size(
-                                record_id_len,
-                                group.samples_byte_nr,
-                                group.invalidation_bytes_nr,
-                            ),
-                            invalidation_bytes: wide(group.invalidation_bytes_nr),
-                        },
-                    }
-                }
-            }
-        }
-    }
+    let read = ChannelGroupBlock::parse(file, addr);
+    let ChannelGroupBlockRead::Block(group) = read else {
+        return no_channel_group(read, w);
+    };
+    let r1 = list_channel_group(file, blocks, links, w, addr, record_id_len, group);
+    let Walked::On(w1) = r1 else {
+        return to_grouped(r1, 0, 0, 0);
+    };
+    let r2 = walk_channel_group_links(file, visited, blocks, links, w1, group);
+    let bytes = group.invalidation_bytes_nr;
+    let size = record_size(record_id_len, group.samples_byte_nr, bytes);
+    to_grouped(r2, group.next_cg_addr, size, wide(bytes))
 }
 
 // Walks a channel group: its acquisition name, source and comment, then its channels. `record_id_len` is its data group's.
@@ -206,18 +225,11 @@ pub fn walk_channel_group(
             invalidation_bytes: 0,
         };
     }
-    match visit(visited, w, addr) {
-        Walked::Refused(e) => Grouped::Refused(e),
-        Walked::On(w1) => enter_channel_group(
-            file,
-            visited,
-            blocks,
-            links,
-            w1,
-            addr,
-            record_id_len,
-        ),
-    }
+    let r = visit(visited, w, addr);
+    let Walked::On(w1) = r else {
+        return to_grouped(r, 0, 0, 0);
+    };
+    enter_channel_group(file, visited, blocks, links, w1, addr, record_id_len)
 }
 
 // The channel groups of a data group that were walked, with the record layout they hand down, or that refuse.

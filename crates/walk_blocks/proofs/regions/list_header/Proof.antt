@@ -6,7 +6,6 @@ use Rattle.walk_state.proofs.Steps.{stop, last}
 use Rattle.walk_blocks.proofs.Entering.{enter-refused}
 use Rattle.walk_blocks.proofs.Reading.{enter-read}
 use Rattle.walk_blocks.proofs.DataBlocks.{header-refused, header-told}
-use mathlib.Core.Path.{refl}
 use borrow.Author.Needs.{needs}
 use Rattle.walk_blocks.proofs.regions.list_header.Statement.{statement}
 use Rattle.walk_blocks.proofs.regions.list_header.Tie as tie
@@ -14,14 +13,15 @@ use Rattle.walk_blocks.proofs.regions.list_header.Tie as tie
 returns : tie.Need-returns
 returns c k h v t i =
     let a = c .before .before .before .before .before .before .before .args in
-    let p = rw (c .before .e .given .1) at (c .before .before .before .parse .ensures) in
-    stop refl (enter-refused k (a .addr) h (a .file .now) (held (a .w) v (a .blocks .now) (a .links .now)) _ (header-refused k h _ _ _ _ t (a .file .now) (a .addr) p))
+    let e = c .before .enum-told .given .1 in
+    let p = rw e at (c .before .before .before .parse .ensures) in
+    stop (rw e at (c .no-header .ensures)) (enter-refused k (a .addr) h (a .file .now) (held (a .w) v (a .blocks .now) (a .links .now)) _ (header-refused k h _ _ _ _ t (a .file .now) (a .addr) p))
 
 returns-2 : tie.Need-returns-2
 returns-2 c k h v t i =
     let a = c .before .before .before .before .before .before .before .before .before .before .before .before .before .before .before .before .args in
-    let p = rw (c .before .before .before .before .before .before .before .before .before .before .header .given .1) at (c .before .before .before .before .before .before .before .before .before .before .before .before .parse .ensures) in
-    let x = header-told k h _ _ _ _ t (a .file .now) (a .addr) (c .before .before .before .before .before .before .before .before .before .before .header .given .0 .0) (c .before .before .before .before .before .before .before .before .wide .result) p (c .before .before .before .before .before .before .before .before .wide .ensures) in
+    let p = rw (c .before .before .before .before .before .before .before .before .before .before .read .given .1) at (c .before .before .before .before .before .before .before .before .before .before .before .before .parse .ensures) in
+    let x = header-told k h _ _ _ _ t (a .file .now) (a .addr) (c .before .before .before .before .before .before .before .before .before .before .read .given .0 .0) (c .before .before .before .before .before .before .before .before .wide .result) p (c .before .before .before .before .before .before .before .before .wide .ensures) in
     last (c .before .before .before .before .list-block .ensures k h (x .own) v (x .tells) i) (le-refl _)
     (enter-read k (a .addr) h (a .file .now) (held (a .w) v (a .blocks .now) (a .links .now)) (x .own) [] (x .read) (x .tells .targets) (x .name _))
 
@@ -33,9 +33,10 @@ list-header-spec =
     (λ c. search needs)
     (λ c. search needs)
     (λ c κs. search needs)
+    returns
+    (λ c κs. search needs)
     (λ c. search needs)
     (λ c κs. search needs)
-    returns
     (λ c. search needs)
     (λ c. search needs)
     returns-2)

@@ -1,12 +1,12 @@
 -- `walk_data_block` meets its contract: an answer for each mark.
 use native.Mathlib.Nat.{le-refl}
 use mathlib.Core.Path.{sym, ap, _∙_}
-use Rattle.mdf4.specs.Act.{DT, SD, Link}
-use Rattle.mdf4.specs.Kinds.{RecordLayout, no-records}
+use Rattle.mdf4.specs.Act.{Link}
+use Rattle.mdf4.specs.Kinds.{RecordLayout}
 use Rattle.walk_state.specs.Held.{held, said}
 use Rattle.walk_blocks.specs.Regions.{layout}
 use Rattle.walk_state.proofs.Steps.{go, last}
-use Rattle.walk_blocks.proofs.DataBlocks.{data-records, data-signal, block-none, block-data, block-signal, block-unknown}
+use Rattle.walk_blocks.proofs.DataBlocks.{block-none, block-data, block-signal, block-unknown}
 use borrow.Author.Needs.{needs}
 use Rattle.walk_blocks.proofs.regions.walk_data_block.Statement.{statement}
 use Rattle.walk_blocks.proofs.regions.walk_data_block.Tie as tie
@@ -24,7 +24,7 @@ returns-2 c =
     let h : RecordLayout = layout (a .record-size) (a .invalidation-bytes) (a .record-id-len) in
     let l : Link = record { target = a .target; found = a .found } in
     let m = sym (c .before .before .before .before .before .before .before .before .before .before .before .leads-to-data .ensures (a .target)) ∙ c .before .before .before .before .before .before .before .before .before .before .if2 .taken in
-    last (c .before .before .before .before .before .before .record-data-block .ensures DT h (data-records _ _ _)) (le-refl _)
+    last (c .before .before .before .before .before .before .record-simple-data-block .ensures) (le-refl _)
     (ap said (block-data h l (a .file .now) (held (a .w) (a .visited .now) (a .blocks .now) (a .links .now)) (c .before .before .before .before .before .before .before .before .before .before .before .before .if1 .left) m))
 
 returns-3 : tie.Need-returns-3
@@ -33,7 +33,7 @@ returns-3 c =
     let h : RecordLayout = layout (a .record-size) (a .invalidation-bytes) (a .record-id-len) in
     let l : Link = record { target = a .target; found = a .found } in
     let m = sym (c .before .before .before .before .before .before .before .before .before .before .before .before .leads-to-data .ensures (a .target)) ∙ c .before .before .before .before .before .before .before .before .before .before .before .if2 .left in
-    last (c .before .before .before .before .before .before .record-data-block2 .ensures SD (no-records 0) data-signal) (le-refl _)
+    last (c .before .before .before .before .before .before .record-signal-data-block .ensures) (le-refl _)
     (ap said (block-signal h l (a .file .now) (held (a .w) (a .visited .now) (a .blocks .now) (a .links .now)) (c .before .before .before .before .before .before .before .before .before .before .before .before .before .if1 .left) m (c .before .before .before .before .before .before .before .before .before .before .if3 .taken)))
 
 returns-4 : tie.Need-returns-4

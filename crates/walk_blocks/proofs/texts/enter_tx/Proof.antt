@@ -1,5 +1,5 @@
 -- `enter_tx` meets its contract: the parser's refusal, or the row of the text.
-use mathlib.Core.Path.{refl, sym, _∙_}
+use mathlib.Core.Path.{sym, _∙_}
 use mathlib.Core.List.{[]}
 use native.Mathlib.Omega.{arith}
 use Rattle.mdf4.specs.Act.{TX}
@@ -17,12 +17,13 @@ use Rattle.walk_blocks.proofs.texts.enter_tx.Tie as tie
 returns : tie.Need-returns
 returns c v m i =
     let a = c .before .before .before .before .before .before .before .args in
-    stop refl (enter-refused TX (a .addr) (no-records 0) (a .file .now) _ _ (text-told TX tx-text (a .file .now) (a .addr) text-block-read (c .before .e .given .1) (c .before .before .before .parse .ensures)))
+    let e = c .before .enum-told .given .1 in
+    stop (rw e at (c .no-text .ensures)) (enter-refused TX (a .addr) (no-records 0) (a .file .now) _ _ (text-told TX tx-text (a .file .now) (a .addr) text-block-read e (c .before .before .before .parse .ensures)))
 
 returns-2 : tie.Need-returns-2
 returns-2 c v m i =
     let a = c .before .before .before .before .before .before .before .before .before .before .before .before .before .before .before .args in
-    let x = text-told TX tx-text (a .file .now) (a .addr) text-block-read (c .before .before .before .before .before .before .before .before .before .text .given .1) (c .before .before .before .before .before .before .before .before .before .before .before .parse .ensures) in
+    let x = text-told TX tx-text (a .file .now) (a .addr) text-block-read (c .before .before .before .before .before .before .before .before .before .read .given .1) (c .before .before .before .before .before .before .before .before .before .before .before .parse .ensures) in
     let t = simple-tells TX _ simple-tx (a .file .now) (a .addr) (x .own) (x .read) _ _ [] (x .long) (sym (m ∙ tx-mark)) (tx-none (x .own)) in
     let f = rw (c .before .before .before .before .before .before .before .plain-block .ensures) at (c .before .before .before .before .list-plain .ensures) in
     last (f TX (x .own) v t i) (omega arith) (enter-read TX (a .addr) (no-records 0) (a .file .now) _ (x .own) [] (x .read) (tx-none (x .own)) (simple-tx .name (a .file .now) []))
@@ -35,8 +36,9 @@ enter-tx-spec =
     (λ c. search needs)
     (λ c. search needs)
     (λ c κs. search needs)
-    (λ c κs. search needs)
     returns
+    (λ c κs. search needs)
+    (λ c κs. search needs)
     (λ c. search needs)
     (λ c. search needs)
     returns-2)

@@ -1,5 +1,4 @@
 -- `enter_ut` meets its contract: the header's refusal, or the row of the unknown block.
-use mathlib.Core.Path.{refl}
 use mathlib.Core.List.{[]}
 use native.Mathlib.Omega.{arith}
 use Rattle.mdf4.specs.Act.{UT}
@@ -17,12 +16,13 @@ use Rattle.walk_blocks.proofs.texts.enter_ut.Tie as tie
 returns : tie.Need-returns
 returns c v i =
     let a = c .before .before .before .before .before .before .before .args in
-    stop refl (enter-refused UT (a .addr) (no-records 0) (a .file .now) _ _ (header-refused UT plain-ut (a .file .now) (a .addr) (told-as header-read (c .before .e .given .1) (c .before .before .before .parse .ensures))))
+    let e = c .before .enum-told .given .1 in
+    stop (rw e at (c .no-header .ensures)) (enter-refused UT (a .addr) (no-records 0) (a .file .now) _ _ (header-refused UT plain-ut (a .file .now) (a .addr) (told-as header-read e (c .before .before .before .parse .ensures))))
 
 returns-2 : tie.Need-returns-2
 returns-2 c v i =
     let a = c .before .before .before .before .before .before .before .before .before .before .before .before .before .before .before .args in
-    let x = header-told UT plain-ut (a .file .now) (a .addr) (told-as header-read (c .before .before .before .before .before .before .before .before .before .header .given .1) (c .before .before .before .before .before .before .before .before .before .before .before .parse .ensures)) in
+    let x = header-told UT plain-ut (a .file .now) (a .addr) (told-as header-read (c .before .before .before .before .before .before .before .before .before .read .given .1) (c .before .before .before .before .before .before .before .before .before .before .before .parse .ensures)) in
     let t = simple-tells UT _ simple-ut (a .file .now) (a .addr) (x .own) (x .read) _ _ [] (x .long) (x .mark) (ut-none (x .own)) in
     let f = rw (c .before .before .before .before .before .before .before .plain-block .ensures) at (c .before .before .before .before .list-plain .ensures) in
     last (f UT (x .own) v t i) (omega arith) (enter-read UT (a .addr) (no-records 0) (a .file .now) _ (x .own) [] (x .read) (ut-none (x .own)) (simple-ut .name (a .file .now) []))
@@ -35,8 +35,9 @@ enter-ut-spec =
     (λ c. search needs)
     (λ c. search needs)
     (λ c κs. search needs)
-    (λ c κs. search needs)
     returns
+    (λ c κs. search needs)
+    (λ c κs. search needs)
     (λ c. search needs)
     (λ c. search needs)
     returns-2)

@@ -5,7 +5,7 @@ use Rattle.mdf4.specs.Walk.{walk-text-like, walk-source, walk-conversion}
 use Rattle.walk_state.specs.Held.{said}
 use Rattle.walk_state.proofs.Steps.{on, off, stop, last}
 use Rattle.walker.specs.Channels.{channel-source}
-use Rattle.walker.proofs.ChannelSteps.{first-off, second-off, third}
+use Rattle.walk_blocks.proofs.Entering.{first-off, second-off, third}
 use borrow.Author.Needs.{needs}
 use Rattle.walker.proofs.channels.walk_channel_source.Statement.{statement}
 use Rattle.walker.proofs.channels.walk_channel_source.Tie as tie

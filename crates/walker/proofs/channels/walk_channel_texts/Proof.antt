@@ -5,7 +5,7 @@ use Rattle.mdf4.specs.Walk.{walk-text-like}
 use Rattle.walk_state.specs.Held.{said}
 use Rattle.walk_state.proofs.Steps.{on, off, stop, last}
 use Rattle.walker.specs.Channels.{channel-source, channel-texts}
-use Rattle.walker.proofs.ChannelSteps.{first-off, second-off, third}
+use Rattle.walk_blocks.proofs.Entering.{first-off, second-off, third}
 use borrow.Author.Needs.{needs}
 use Rattle.walker.proofs.channels.walk_channel_texts.Statement.{statement}
 use Rattle.walker.proofs.channels.walk_channel_texts.Tie as tie

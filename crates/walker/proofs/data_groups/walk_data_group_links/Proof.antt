@@ -1,5 +1,5 @@
 -- `walk_data_group_links` meets its contract: the comment's refusal, the channel groups' refusal, or the answer of the data.
-use mathlib.Core.Path.{refl, _∙_}
+use mathlib.Core.Path.{_∙_}
 use native.Mathlib.Omega.{arith}
 use lib.ListN.{length}
 use Rattle.walk_state.proofs.Steps.{on, off, stop, last}
@@ -15,19 +15,20 @@ returns c fuel h =
     stop e (links-first fuel (a .group .«record_id_len») (a .group .«comment_addr») (a .group .«first_cg_addr») (a .group .«data_block_addr») (a .file .now) _ _ (off e (c .before .before .before .before .before .before .before .before .walk-text-like .ensures)))
 
 walk-channel-groups-requires : tie.Need-walk-channel-groups-requires
-walk-channel-groups-requires c κs = on (c .before .before .before .before .r .given .1) (c .before .before .before .before .before .before .before .before .before .before .before .before .walk-text-like .ensures) .within
-
-walk-data-region-requires : tie.Need-walk-data-region-requires
-walk-data-region-requires c κs =
-    let a = c .before .before .before .before .before .before .before .before .before .before .before .before .before .before .before .before .before .before .before .before .before .before .before .before .before .before .before .before .before .before .before .before .before .before .before .args in
-    groups-on (c .before .before .before .before .before .before .w2 .given .1) (c .before .before .before .before .before .before .before .before .before .before .before .before .before .before .walk-channel-groups .ensures (length (a .visited .now)) (omega (arith, c .before .before .before .before .before .before .before .before .before .before .before .before .before .before .before .before .before .before .before .before .before .before .before .before .before .before .before .walk-text-like .kept .1 .0))) .later .within
+walk-channel-groups-requires c κs = on (c .before .before .before .before .r1 .given .1) (c .before .before .before .before .before .before .before .before .before .before .before .before .walk-text-like .ensures) .within
 
 returns-2 : tie.Need-returns-2
 returns-2 c fuel h =
     let a = c .before .before .before .before .before .before .before .before .before .before .before .before .before .before .before .before .before .before .before .before .before .before .before .before .before .before .before .before .before .before .args in
-    let m = on (c .before .before .before .before .before .before .before .before .before .before .before .before .before .before .r .given .1) (c .before .before .before .before .before .before .before .before .before .before .before .before .before .before .before .before .before .before .before .before .before .before .walk-text-like .ensures) in
-    let g = groups-off (c .before .e .given .1) (c .before .before .before .before .before .before .before .before .before .walk-channel-groups .ensures fuel (omega (arith, h, c .before .before .before .before .before .before .before .before .before .before .before .before .before .before .before .before .before .before .before .before .before .before .walk-text-like .kept .1 .0))) in
-    stop refl (links-second fuel (a .group .«record_id_len») (a .group .«comment_addr») (a .group .«first_cg_addr») (a .group .«data_block_addr») (a .file .now) _ _ (m .says) _ g)
+    let m = on (c .before .before .before .before .before .before .before .before .before .before .before .before .before .before .r1 .given .1) (c .before .before .before .before .before .before .before .before .before .before .before .before .before .before .before .before .before .before .before .before .before .before .walk-text-like .ensures) in
+    let e = c .before .enum-told2 .given .1 in
+    let g = groups-off e (c .before .before .before .before .before .before .before .before .before .walk-channel-groups .ensures fuel (omega (arith, h, c .before .before .before .before .before .before .before .before .before .before .before .before .before .before .before .before .before .before .before .before .before .before .walk-text-like .kept .1 .0))) in
+    stop (rw e at (c .without-layout .ensures)) (links-second fuel (a .group .«record_id_len») (a .group .«comment_addr») (a .group .«first_cg_addr») (a .group .«data_block_addr») (a .file .now) _ _ (m .says) _ g)
+
+walk-data-region-requires : tie.Need-walk-data-region-requires
+walk-data-region-requires c κs =
+    let a = c .before .before .before .before .before .before .before .before .before .before .before .before .before .before .before .before .before .before .before .before .before .before .before .before .before .before .before .before .before .before .before .before .before .before .before .args in
+    groups-on (c .before .before .before .before .before .before .r2 .given .1) (c .before .before .before .before .before .before .before .before .before .before .before .before .before .before .walk-channel-groups .ensures (length (a .visited .now)) (omega (arith, c .before .before .before .before .before .before .before .before .before .before .before .before .before .before .before .before .before .before .before .before .before .before .before .before .before .before .before .walk-text-like .kept .1 .0))) .later .within
 
 same-length-7 : tie.Need-same-length-7
 same-length-7 c = c .before .before .before .before .before .before .walk-data-region .kept .1 .0 ∙ c .before .before .before .before .before .before .before .before .before .before .before .before .before .before .before .before .before .before .before .before .before .walk-channel-groups .kept .1 .0 ∙ c .before .before .before .before .before .before .before .before .before .before .before .before .before .before .before .before .before .before .before .before .before .before .before .before .before .before .before .before .before .before .before .before .before .before .walk-text-like .kept .1 .0
@@ -41,8 +42,8 @@ same-length-9 c = c .before .before .before .before .before .before .walk-data-r
 returns-3 : tie.Need-returns-3
 returns-3 c fuel h =
     let a = c .before .before .before .before .before .before .before .before .before .before .before .before .before .before .before .before .before .before .before .before .before .before .before .before .before .before .before .before .before .before .before .before .before .before .before .before .before .before .before .before .before .before .args in
-    let m = on (c .before .before .before .before .before .before .before .before .before .before .before .before .before .before .before .before .before .before .before .before .before .before .before .before .before .before .r .given .1) (c .before .before .before .before .before .before .before .before .before .before .before .before .before .before .before .before .before .before .before .before .before .before .before .before .before .before .before .before .before .before .before .before .before .before .walk-text-like .ensures) in
-    let g = groups-on (c .before .before .before .before .before .before .before .before .before .before .before .before .before .w2 .given .1) (c .before .before .before .before .before .before .before .before .before .before .before .before .before .before .before .before .before .before .before .before .before .walk-channel-groups .ensures fuel (omega (arith, h, c .before .before .before .before .before .before .before .before .before .before .before .before .before .before .before .before .before .before .before .before .before .before .before .before .before .before .before .before .before .before .before .before .before .before .walk-text-like .kept .1 .0))) in
+    let m = on (c .before .before .before .before .before .before .before .before .before .before .before .before .before .before .before .before .before .before .before .before .before .before .before .before .before .before .r1 .given .1) (c .before .before .before .before .before .before .before .before .before .before .before .before .before .before .before .before .before .before .before .before .before .before .before .before .before .before .before .before .before .before .before .before .before .before .walk-text-like .ensures) in
+    let g = groups-on (c .before .before .before .before .before .before .before .before .before .before .before .before .before .r2 .given .1) (c .before .before .before .before .before .before .before .before .before .before .before .before .before .before .before .before .before .before .before .before .before .walk-channel-groups .ensures fuel (omega (arith, h, c .before .before .before .before .before .before .before .before .before .before .before .before .before .before .before .before .before .before .before .before .before .before .before .before .before .before .before .before .before .before .before .before .before .before .walk-text-like .kept .1 .0))) in
     last (c .before .before .before .before .before .before .walk-data-region .ensures) (omega (arith, m .grew, g .later .grew)) (links-third fuel (a .group .«record_id_len») (a .group .«comment_addr») (a .group .«first_cg_addr») (a .group .«data_block_addr») (a .file .now) _ _ (m .says) _ _ (g .says) _ (c .before .before .before .before .before .before .before .before .before .before .before .make-link .ensures))
 
 pub walk-data-group-links-spec : {M : Type 1} → statement M
@@ -61,11 +62,12 @@ walk-data-group-links-spec =
     (λ c. search needs)
     (λ c κs. search needs)
     (λ c. search needs)
-    walk-data-region-requires
-    (λ c. search needs)
     (λ c. search needs)
     (λ c. search needs)
     returns-2
+    (λ c κs. search needs)
+    (λ c. search needs)
+    walk-data-region-requires
     same-length-7
     same-length-8
     same-length-9

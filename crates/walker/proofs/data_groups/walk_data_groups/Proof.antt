@@ -2,7 +2,6 @@
 use mathlib.Core.Path.{refl, _∙_}
 use Rattle.mdf4.specs.Walk.{walk-data-group}
 use Rattle.mdf4.proofs.Fuel.{walk-data-group-moves}
-use Rattle.walk_state.specs.Held.{said}
 use Rattle.walk_state.proofs.Steps.{go, stop}
 use Rattle.walker.proofs.Chaining.{Step, Going, going, going-on, going-off, gone, left, left-falls, next-on, next-off, said-err}
 use borrow.Author.Needs.{needs}

@@ -14,23 +14,24 @@ returns c fuel got h =
     let s = seen-is (a .w) (a .visited .now) (a .blocks .now) (a .links .now) (a .addr) _ _ (c .before .seen .ensures) (c .if1 .taken) in
     grouped-go (c .before .before .before .before .before .before .before .pre) (omega arith) (group-seen fuel (a .record-id-len) (a .addr) got (a .file .now) _ s)
 
-enter-channel-group-requires : tie.Need-enter-channel-group-requires
-enter-channel-group-requires c κs =
-    let a = c .before .before .before .before .before .before .before .before .before .before .before .before .before .before .before .before .before .args in
-    on (c .before .before .before .before .w1 .given .1) (c .before .before .before .before .before .before .before .before .visit .ensures CG (a .file .now) (a .blocks .now) (a .links .now) (c .before .before .before .before .before .before .before .before .before .before .before .before .before .before .before .before .before .pre)) .within
-
 returns-2 : tie.Need-returns-2
 returns-2 c fuel got h =
     let a = c .before .before .before .before .before .before .before .before .before .before .before .before .before .before .args in
     let s = seen-is (a .w) (a .visited .now) (a .blocks .now) (a .links .now) (a .addr) _ _ (c .before .before .before .before .before .before .before .before .seen .ensures) (c .before .before .before .before .before .before .before .if1 .left) in
     let d = c .before .before .before .before .before .visit .ensures CG (a .file .now) (a .blocks .now) (a .links .now) (c .before .before .before .before .before .before .before .before .before .before .before .before .before .before .pre) in
-    grouped-stop (group-unmarked fuel (a .record-id-len) (a .addr) got (a .file .now) _ s (off (c .before .e .given .1) d))
+    let e = c .before .enum-told .given .1 in
+    grouped-stop (rw e at (c .to-grouped .ensures)) (group-unmarked fuel (a .record-id-len) (a .addr) got (a .file .now) _ s (off e d))
+
+enter-channel-group-requires : tie.Need-enter-channel-group-requires
+enter-channel-group-requires c κs =
+    let a = c .before .before .before .before .before .before .before .before .before .before .before .before .before .before .before .before .before .args in
+    on (c .before .before .before .before .r .given .1) (c .before .before .before .before .before .before .before .before .visit .ensures CG (a .file .now) (a .blocks .now) (a .links .now) (c .before .before .before .before .before .before .before .before .before .before .before .before .before .before .before .before .before .pre)) .within
 
 returns-3 : tie.Need-returns-3
 returns-3 c fuel got h =
     let a = c .before .before .before .before .before .before .before .before .before .before .before .before .before .before .before .before .before .before .before .before .before .before .before .before .args in
     let s = seen-is (a .w) (a .visited .now) (a .blocks .now) (a .links .now) (a .addr) _ _ (c .before .before .before .before .before .before .before .before .before .before .before .before .before .before .before .before .before .before .seen .ensures) (c .before .before .before .before .before .before .before .before .before .before .before .before .before .before .before .before .before .if1 .left) in
-    let m = on (c .before .before .before .before .before .before .before .before .before .before .before .w1 .given .1) (c .before .before .before .before .before .before .before .before .before .before .before .before .before .before .before .visit .ensures CG (a .file .now) (a .blocks .now) (a .links .now) (c .before .before .before .before .before .before .before .before .before .before .before .before .before .before .before .before .before .before .before .before .before .before .before .before .pre)) in
+    let m = on (c .before .before .before .before .before .before .before .before .before .before .before .r .given .1) (c .before .before .before .before .before .before .before .before .before .before .before .before .before .before .before .visit .ensures CG (a .file .now) (a .blocks .now) (a .links .now) (c .before .before .before .before .before .before .before .before .before .before .before .before .before .before .before .before .before .before .before .before .before .before .before .before .pre)) in
     grouped-last (c .before .before .before .before .before .before .enter-channel-group .ensures fuel got (omega (arith, c .before .before .before .before .before .before .before .before .before .before .before .before .before .before .before .visit .kept .0))) (m .grew) (group-marked fuel (a .record-id-len) (a .addr) got (a .file .now) _ s _ (m .says))
 
 pub walk-channel-group-spec : {M : Type 1} → statement M
@@ -43,9 +44,10 @@ walk-channel-group-spec =
     (λ c κs. search needs)
     (λ c. search needs)
     (λ c. search needs)
-    enter-channel-group-requires
+    (λ c κs. search needs)
     (λ c. search needs)
     returns-2
+    enter-channel-group-requires
     (λ c. search needs)
     (λ c. search needs)
     (λ c. search needs)

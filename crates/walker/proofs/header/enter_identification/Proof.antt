@@ -1,5 +1,4 @@
 -- `enter_identification` meets its contract: the parser's refusal, or the row of the identification.
-use mathlib.Core.Path.{refl}
 use native.Mathlib.Omega.{arith}
 use Rattle.mdf4.specs.Act.{ID}
 use Rattle.walk_state.proofs.Steps.{stop, last}
@@ -11,8 +10,9 @@ use Rattle.walker.proofs.header.enter_identification.Tie as tie
 returns : tie.Need-returns
 returns c v i =
     let a = c .before .before .before .before .before .before .before .args in
-    let p = rw (c .before .e .given .1) at (c .before .before .before .parse .ensures) in
-    stop refl (id-refused (a .file .now) _ (p .says))
+    let e = c .before .enum-told2 .given .1 in
+    let p = rw e at (c .before .before .before .parse .ensures) in
+    stop (rw e at (c .no-identification .ensures)) (id-refused (a .file .now) _ (p .says))
 
 returns-2 : tie.Need-returns-2
 returns-2 c v i =
@@ -30,8 +30,9 @@ enter-identification-spec =
     (λ c. search needs)
     (λ c. search needs)
     (λ c κs. search needs)
-    (λ c κs. search needs)
     returns
+    (λ c κs. search needs)
+    (λ c κs. search needs)
     (λ c. search needs)
     (λ c. search needs)
     returns-2)
