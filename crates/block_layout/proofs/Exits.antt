@@ -21,9 +21,10 @@ use Rattle.clear_ranges.specs.declared.Cleared.{Cleared}
 use Rattle.clear_ranges.specs.declared.Cleared.the-variants.{Bytes}
 use Rattle.clear_ranges.specs.declared.Cleared.the-variants as cleared-variants
 use Rattle.block_layout.specs.declared.Answer.{Answer}
-use Rattle.block_layout.specs.declared.Laid.{Laid}
-use Rattle.block_layout.specs.declared.Laid.the-variants.{Tables, Refused}
-use Rattle.block_layout.specs.Entries.{lent, exit-with, Zeroed, Filled, Long, Stands, LaidMet, Fits}
+use Rattle.file_layout.specs.declared.Laid.{Laid}
+use Rattle.file_layout.specs.declared.Laid.the-variants.{Tables, Refused}
+use Rattle.file_layout.specs.Tables.{lent, Zeroed, Filled, Stands, LaidMet}
+use Rattle.block_layout.specs.Entries.{exit-with, Long, Fits}
 
 -- the answers of `lay`
 module _ {n : Lent} {r v b l g : List ℕ} {x : Laid} where

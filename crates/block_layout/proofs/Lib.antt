@@ -1,5 +1,4 @@
 -- Laws that the proofs of the entries cite.
-pub mod Laying
 pub mod Standing
 pub mod Exits
 pub mod Promises

@@ -14,10 +14,11 @@ use Rattle.mdf4.proofs.Lists.{All, all-at}
 use Rattle.mdf4.proofs.Texts.{all-sort}
 use Rattle.tables.specs.Rows.{row-at}
 use Rattle.tables.specs.Laid.{Shows, RowOk, Printable}
-use Rattle.tables.proofs.Words.{rows-back, links-back, ranges-back, rows-at}
+use Rattle.mdf4.proofs.Demand3.{pairs-in}
+use Rattle.tables.proofs.Words.{rows-back, links-back, rows-at}
 use Rattle.to_tree.specs.Printing.{Holds}
-use Rattle.block_layout.specs.Entries.{Filled, Stands}
-use Rattle.block_layout.proofs.Laying.{filled-is}
+use Rattle.file_layout.specs.Tables.{Filled, Stands}
+use Rattle.file_layout.proofs.Laying.{filled-is}
 
 -- the layout of an accepted recording: each of its rows can be read again and has its links in the link table
 row-ok : (r : List ℕ) (ls : List Link) (ws : List Row) → All (Readable r) ws → Placed r ls ws → All (RowOk r (length ls)) ws
@@ -48,7 +49,7 @@ module _ {n : Lent} {r : List ℕ} {nv nb nl ng : ℕ} {v b l g : List ℕ} (t :
   shows = record {
     rows = rw (t .fills .blocks-count, t .fills .blocks) (sym (rows-back [] (t .layout .blocks) _));
     links = rw (t .fills .links-count, t .fills .links) (sym (links-back (t .layout .state .links) _));
-    gaps = rw (t .fills .gaps-count, t .fills .gaps) (sym (ranges-back (t .layout .gaps) _));
+    gaps = rw (t .fills .gaps-count, t .fills .gaps) (sym (pairs-in (t .layout .gaps) _));
   }
 
   -- and each row is that of a block of the recording

@@ -9,21 +9,19 @@ ghost use Rattle.mdf4.specs.Act.{err};
 ghost use Rattle.mdf4.specs.Layout.{Layout};
 ghost use Rattle.mdf4.specs.Answers.{Lent, fitted, exit, layout-exit, to-text-exit, to-tree-exit, clear-list-exit};
 ghost use Rattle.blocks.specs.Errors.{numbers};
-ghost use Rattle.block_layout.specs.Entries.{lent, left, Zeroed, Filled, Long, LaidMet, Fits};
+ghost use Rattle.file_layout.specs.Tables.{lent, Filled};
+ghost use Rattle.block_layout.specs.Entries.{left, Long, Fits};
 use blocks::error::MdfError;
 use clear_ranges::Cleared;
 use clear_ranges::put_clear_list;
-use tables::PAIR_WORDS;
-use tables::list_gaps;
-use tables::order_blocks;
+use file_layout::Laid;
+use file_layout::lay;
+use file_layout::zero_tables;
 use tables::zero_bytes;
 use tables::zero_words;
 use to_text::put_text;
 use to_tree::Tree;
 use to_tree::put_tree;
-use walk_state::Walk;
-use walk_state::Walked;
-use walker::header::walk;
 
 // What an entry answers: the rows of each table and the bytes of the output in use, or a refusal.
 pub enum Answer {
@@ -35,74 +33,6 @@ pub enum Answer {
         bytes: usize,
     },
     Refused(MdfError),
-}
-
-// The rows of each table behind the walk, with the blocks in order and the gaps listed, or a refusal.
-pub enum Laid {
-    Tables {
-        visited: usize,
-        blocks: usize,
-        links: usize,
-        gaps: usize,
-    },
-    Refused(MdfError),
-}
-
-// All words of the four tables are 0.
-pub(crate) fn zero_tables(
-    visited: &mut [u64],
-    blocks: &mut [u64],
-    links: &mut [u64],
-    gaps: &mut [u64],
-)
-    ensures { λ r. ⌜ Zeroed (now (visited .entry)) (now (blocks .entry)) (now (links .entry)) (now (gaps .entry)) (now (visited .exit)) (now (blocks .exit)) (now (links .exit)) (now (gaps .exit)) ⌝ }
-{
-    zero_words(visited);
-    zero_words(blocks);
-    zero_words(links);
-    zero_words(gaps);
-}
-
-// What every entry begins with: the tables zeroed, the walk, the blocks by offset, the gaps. A refusal leaves the tables free.
-pub(crate) fn lay(
-    data: &[u8],
-    visited: &mut [u64],
-    blocks: &mut [u64],
-    links: &mut [u64],
-    gaps: &mut [u64],
-) -> Laid
-    ensures { λ r. ⌜ ((scratch out : ℕ) → LaidMet (lent (now (visited .entry)) (now (blocks .entry)) (now (links .entry)) (now (gaps .entry)) scratch out) (now («data» .entry)) r (now (visited .exit)) (now (blocks .exit)) (now (links .exit)) (now (gaps .exit))) ⌝ }
-{
-    zero_tables(visited, blocks, links, gaps);
-    let start = Walk {
-        visited: 0,
-        blocks: 0,
-        links: 0,
-        dg: 0,
-        cg: 0,
-        cn: 0,
-    };
-    let r = walk(data, visited, blocks, links, start);
-    match r {
-        Walked::Refused(e) => Laid::Refused(e),
-        Walked::On(w) => {
-            order_blocks(blocks, w.blocks);
-            let count = list_gaps(blocks, w.blocks, data.len() as u64, gaps);
-            let rows = gaps.len() / PAIR_WORDS;
-            if rows < count {
-                return Laid::Refused(MdfError::TableTooShort {
-                    lent: rows as u64,
-                    needed: count as u64,
-                });
-            }
-            Laid::Tables {
-                visited: w.visited,
-                blocks: w.blocks,
-                links: w.links,
-                gaps: count,
-            }
-        }
-    }
 }
 
 // The layout: its rows, links and gaps in the four tables.

@@ -4,7 +4,8 @@ ghost use mathlib.Core.Path.{_≡_};
 ghost use mathlib.Core.List.{[]};
 ghost use lib.ListN.{length};
 ghost use Rattle.mdf4.specs.Answers.{layout-exit, to-text-exit, to-tree-exit, clear-list-exit};
-ghost use Rattle.block_layout.specs.Entries.{lent, answered, exit-with};
+ghost use Rattle.file_layout.specs.Tables.{lent};
+ghost use Rattle.block_layout.specs.Entries.{answered, exit-with};
 ghost use Rattle.block_layout_c.specs.Words.{answer-words, stored};
 use block_layout::Answer;
 

@@ -4,7 +4,7 @@ use mathlib.Core.List.{[]}
 use native.Mathlib.Omega.{arith}
 use borrow.Author.Needs.{needs}
 use lib.ListN.{length}
-use Rattle.block_layout.specs.Entries.{lent}
+use Rattle.file_layout.specs.Tables.{lent}
 use Rattle.block_layout.proofs.Exits.{laid-tables, laid-refused, fits-same, cleared-bytes, cleared-refused, clear-laid-refused, clear-refused, clear-made}
 use Rattle.block_layout.proofs.Standing.{printable, shows, inv, is-layout}
 use Rattle.block_layout.proofs.clear_bytes.Statement.{statement}

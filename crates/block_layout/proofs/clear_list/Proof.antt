@@ -6,7 +6,7 @@ use Rattle.block_layout.proofs.clear_list.Statement.{statement}
 use Rattle.block_layout.proofs.clear_list.Tie as tie
 
 returns : tie.Need-returns
-returns c = (scratch-zero _ _ _ _ _ _ _ (length (c .before .before .before .before .before .before .before .before .before .before .before .before .before .before .before .before .before .before .before .before .before .before .before .before .before .before .before .before .before .before .args .scratch .now)) (c .before .before .zero-words .ensures) (c .before .before .before .before .before .before .before .before .before .before .before .before .before .before .before .before .clear-bytes .kept .1 .1 .1 .1 .1 .0) (c .before .before .before .before .before .before .before .before .before .before .before .before .before .before .before .before .clear-bytes .ensures .0), c .before .before .before .before .before .before .before .before .before .before .before .before .before .before .before .before .clear-bytes .ensures .1)
+returns c = (scratch-zero _ _ _ _ _ _ _ (length (c .before .before .before .before .before .before .before .before .before .before .before .before .before .before .before .before .before .before .before .before .before .before .before .before .before .before .before .before .before .before .args .scratch .now)) (search needs) (c .before .before .before .before .before .before .before .before .before .before .before .before .before .before .before .before .clear-bytes .kept .1 .1 .1 .1 .1 .0) (c .before .before .before .before .before .before .before .before .before .before .before .before .before .before .before .before .clear-bytes .ensures .0), c .before .before .before .before .before .before .before .before .before .before .before .before .before .before .before .before .clear-bytes .ensures .1)
 
 pub clear-list-spec : {M : Type 1} → statement M
 clear-list-spec =

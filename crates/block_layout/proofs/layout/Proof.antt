@@ -2,7 +2,7 @@
 use mathlib.Core.Path.{refl, sym, _∙_}
 use mathlib.Core.List.{[]}
 use borrow.Author.Needs.{needs}
-use Rattle.block_layout.specs.Entries.{lent}
+use Rattle.file_layout.specs.Tables.{lent}
 use Rattle.block_layout.proofs.Exits.{laid-tables, laid-refused, refused-exit, layout-accepted, layout-refused}
 use Rattle.block_layout.proofs.layout.Statement.{statement}
 use Rattle.block_layout.proofs.layout.Tie as tie

@@ -5,7 +5,7 @@ use native.Mathlib.Omega.{arith}
 use borrow.Author.Needs.{needs}
 use lib.ListN.{length}
 use Rattle.mdf4.specs.Listing.{to-text}
-use Rattle.block_layout.specs.Entries.{lent}
+use Rattle.file_layout.specs.Tables.{lent}
 use Rattle.block_layout.proofs.Exits.{laid-tables, laid-refused, from-zeros, fits-same, text-refused, text-made}
 use Rattle.block_layout.proofs.Standing.{printable, shows}
 use Rattle.block_layout.proofs.to_text.Statement.{statement}

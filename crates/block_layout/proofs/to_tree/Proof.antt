@@ -3,7 +3,7 @@ use mathlib.Core.Path.{sym, _∙_}
 use native.Mathlib.Omega.{arith}
 use borrow.Author.Needs.{needs}
 use lib.ListN.{length}
-use Rattle.block_layout.specs.Entries.{lent}
+use Rattle.file_layout.specs.Tables.{lent}
 use Rattle.block_layout.proofs.Exits.{laid-tables, laid-refused, from-zeros, fits-same, tree-laid-refused, tree-refused, tree-made}
 use Rattle.block_layout.proofs.Standing.{printable, spare, holds, refilled}
 use Rattle.block_layout.proofs.to_tree.Statement.{statement}

@@ -1,7 +1,7 @@
 -- `zero_tables` meets its contract. Assumes nothing.
 use borrow.Author.Needs.{needs}
-use Rattle.block_layout.proofs.zero_tables.Statement.{statement}
-use Rattle.block_layout.proofs.zero_tables.Tie as tie
+use Rattle.file_layout.proofs.zero_tables.Statement.{statement}
+use Rattle.file_layout.proofs.zero_tables.Tie as tie
 
 returns : tie.Need-returns
 returns c = record { visited = search needs; blocks = search needs; links = search needs; gaps = search needs }

@@ -2,9 +2,9 @@
 use native.Mathlib.Omega.{arith}
 use borrow.Author.Needs.{needs}
 use Rattle.walk_state.proofs.Steps.{on, off}
-use Rattle.block_layout.proofs.Laying.{within-zeroed, walk-refused, gaps-refused, stands}
-use Rattle.block_layout.proofs.lay.Statement.{statement}
-use Rattle.block_layout.proofs.lay.Tie as tie
+use Rattle.file_layout.proofs.Laying.{within-zeroed, walk-refused, gaps-refused, stands}
+use Rattle.file_layout.proofs.lay.Statement.{statement}
+use Rattle.file_layout.proofs.lay.Tie as tie
 
 walk-requires : tie.Need-walk-requires
 walk-requires c κs = within-zeroed (c .before .before .before .before .before .before .before .before .before .before .before .zero-tables .ensures)

@@ -5,9 +5,10 @@ use mathlib.Core.List.{List, [], _∷_, _++_}
 use Prim.Native.Nat.{ℕ, suc, _+_, _-_, _*_, _/_, _≤_, _<_}
 use native.Mathlib.Omega.{arith}
 use lib.Dec.{leb}
-use lib.ListN.{length, take, drop, replicate, length-append, length-replicate, replicate-append-replicate}
-use lib.Seq.{length-take-le, drop-at}
+use lib.ListN.{length, take, drop, replicate, length-append, length-replicate}
+use lib.Seq.{length-take-le}
 use borrow.Author.Tests.{le-leb, lt-leb}
+use Rattle.fmt.proofs.Room.{drop-replicate}
 use Rattle.mdf4.specs.Bytes.{Range, concat-map}
 use Rattle.mdf4.specs.Act.{Refusal, refusal, Result, ok, err, and-then, check, Stop, Row, State, reason}
 use Rattle.mdf4.specs.Walk.{walk, start}
@@ -19,12 +20,13 @@ use Rattle.mdf4.proofs.Walk.{walk-inv}
 use Rattle.tables.specs.Rows.{held-rows, held-links}
 use Rattle.tables.specs.Blocks.{Ordered}
 use Rattle.tables.specs.Gaps.{Listed}
-use Rattle.tables.proofs.Words.{rows-length, links-length, extents-back}
+use Rattle.mdf4.proofs.Demand3.{rows-in}
+use Rattle.tables.proofs.Words.{rows-length, links-length}
 use Rattle.walk_state.specs.Held.{held, said, Within}
 use Rattle.walk_state.specs.declared.Walk.{Walk}
 use Rattle.walk_state.proofs.Start.{none, held-none, within-none}
 use Rattle.walk_state.proofs.Steps.{MetOn}
-use Rattle.block_layout.specs.Entries.{lent, Zeroed, Stands}
+use Rattle.file_layout.specs.Tables.{lent, Zeroed, Stands}
 
 -- what an answer of the walk says
 said-ok : (m : Result Stop (Unit {0} × State)) (s : State) → said m ≡ ok s → m ≡ ok (tt, s)
@@ -42,12 +44,6 @@ unfolding filled
 filled-is k xs t e =
     let n : k ≡ length t - length xs = omega (arith, ap length e, length-append xs (replicate {A = ℕ} k 0), length-replicate {A = ℕ} k 0) in
     e ∙ ap (λ (j : ℕ). xs ++ replicate {A = ℕ} j 0) n
-
-zeros-behind : (m n : ℕ) → m ≤ n → drop m (replicate {A = ℕ} n 0) ≡ replicate {A = ℕ} (n - m) 0
-zeros-behind m n h =
-    let e : n ≡ m + (n - m) = omega arith in
-    ap (λ (j : ℕ). drop m (replicate {A = ℕ} j 0)) e ∙ ap (drop m) (sym (replicate-append-replicate m (n - m) 0))
-    ∙ drop-at (replicate {A = ℕ} m 0) (replicate {A = ℕ} (n - m) 0) m (length-replicate {A = ℕ} m 0)
 
 zeros-long : (n : ℕ) {t : List ℕ} → t ≡ replicate n 0 → length t ≡ n
 zeros-long n e = ap length e ∙ length-replicate {A = ℕ} n 0
@@ -113,7 +109,7 @@ module _ {v b l g v1 b1 l1 g1 : List ℕ} (z : Zeroed v b l g v1 b1 l1 g1) where
       gaps-are =
           let words : List ℕ = concat-map (row-words []) (sort rows) ++ spare in
           ap (compute-gaps (length r) 0)
-          (ap (ranges-in block-row-words (w .blocks)) ordered ∙ ap (λ (j : ℕ). ranges-in block-row-words j words) sorted-count ∙ extents-back [] (sort rows) spare)
+          (ap (ranges-in block-row-words (w .blocks)) ordered ∙ ap (λ (j : ℕ). ranges-in block-row-words j words) sorted-count ∙ rows-in [] (sort rows) spare)
 
       count-is : count ≡ length (shown .gaps)
       count-is = h .count ∙ ap length gaps-are
@@ -136,9 +132,8 @@ module _ {v b l g v1 b1 l1 g1 : List ℕ} (z : Zeroed v b l g v1 b1 l1 g1) where
       gaps-filled q =
           let gs : List Range = compute-gaps (length r) 0 (ranges-in block-row-words (w .blocks) b3) in
           let fit : length gs ≤ length g1 / pair-words = omega (arith, h .count, h .long, gaps-long) in
-          let room : pair-words * length gs ≤ length g = omega (arith, h .count, gaps-long) in
           let zeros : drop (pair-words * length gs) g1 ≡ replicate {A = ℕ} (length g - pair-words * length gs) 0
-          = ap (drop (pair-words * length gs)) (z .gaps) ∙ zeros-behind (pair-words * length gs) (length g) room in
+          = ap (drop (pair-words * length gs)) (z .gaps) ∙ drop-replicate (pair-words * length gs) (length g) 0 in
           filled-is (length g - pair-words * length gs) (concat-map range-words gs) g3 (h .held fit ∙ ap (λ (t : List ℕ). concat-map range-words gs ++ t) zeros)
           ∙ ap (λ (j : ℕ). filled j (concat-map range-words gs)) gaps-long
           ∙ ap (λ (ps : List Range). filled (length g) (concat-map range-words ps)) gaps-are

@@ -1,0 +1,2 @@
+-- Laws of the layout that stands in the tables.
+pub mod Laying
