@@ -3,6 +3,7 @@ pub mod Headers
 pub mod Fixed
 pub mod Plain
 pub mod HeaderBlock
+pub mod DataBlock
 pub mod DataGroupBlock
 pub mod DataType
 pub mod Parse

@@ -79,7 +79,7 @@ impl ChannelBlock {
             HeaderRead::Refused(e) => ChannelBlockRead::Refused(e),
             HeaderRead::Header(header) => {
                 let at = offset as usize;
-                let end = at + 160;
+                let end = at + ChannelBlock::MIN_LEN as usize;
                 ChannelBlockRead::Block(ChannelBlock::fields(&file[at..end]))
             }
         }

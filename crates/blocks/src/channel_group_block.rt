@@ -46,6 +46,9 @@ impl ChannelGroupBlock {
 
     pub const MIN_LEN: u64 = 104;
 
+    // What is read beside the links: the header and 32 bytes of data.
+    pub const FIXED_LEN: u64 = BlockHeader::LEN + 32;
+
     // Whether there are six links, and the links and the 32 bytes behind them lie inside the block.
     fn header_ok(links_nr: u64, block_len: u64) -> bool
         ensures { λ r. ⌜ r ≡ (leb 6 «links_nr» && leb (24 + 8 * «links_nr» + 32) «block_len») ⌝ }
@@ -53,10 +56,10 @@ impl ChannelGroupBlock {
         if links_nr < 6 {
             return false;
         }
-        if block_len < 56 {
+        if block_len < ChannelGroupBlock::FIXED_LEN {
             return false;
         }
-        if (block_len - 56) / 8 < links_nr {
+        if (block_len - ChannelGroupBlock::FIXED_LEN) / 8 < links_nr {
             return false;
         }
         true
@@ -118,7 +121,7 @@ impl ChannelGroupBlock {
                 let block_len = header.block_len;
                 if ChannelGroupBlock::header_ok(links_nr, block_len) {
                     let len = file.len() as u64;
-                    return need_from_block(len, offset, 56, links_nr);
+                    return need_from_block(len, offset, ChannelGroupBlock::FIXED_LEN, links_nr);
                 }
                 Extent::Refused(MdfError::BlockSerializationError {
                     place: offset,

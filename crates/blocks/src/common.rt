@@ -1,7 +1,8 @@
 // The block header, and what every parser begins with.
 ghost use mathlib.Core.Path.{_≡_};
-ghost use Prim.Native.Nat.{_+_, _≤_, _-_, _^_, min};
+ghost use Prim.Native.Nat.{ℕ, _+_, _≤_, _-_, _^_, min};
 ghost use lib.ListN.{length};
+ghost use Rattle.mdf4.specs.Kinds.{leads-to};
 ghost use Rattle.blocks.specs.Headers.{header-read, header-of, inside-or, marked-or};
 use crate::error::MdfError;
 use crate::reader::Reader;
@@ -25,6 +26,13 @@ pub fn wide(x: u32) -> u64
     x as u64
 }
 
+// Whether a link leads to a mark: `found` is 0, or 1 + the mark at its target.
+pub fn leads_to(found: u64, id: u32) -> bool
+    ensures { λ r. ⌜ ((t : ℕ) → r ≡ leads-to id (record { target = t; found = found })) ⌝ }
+{
+    found == 1 + wide(id)
+}
+
 // a + b, or 2^64 - 1 where that passes it.
 pub fn saturating_add(a: u64, b: u64) -> u64
     ensures { λ r. ⌜ r ≡ min (a + b) (2 ^ 64 - 1) ⌝ }
@@ -37,6 +45,9 @@ pub fn saturating_add(a: u64, b: u64) -> u64
 }
 
 impl BlockHeader {
+    // Its bytes: mark, four reserved, block_len, links_nr.
+    pub const LEN: u64 = 24;
+
     // The fields of the first 24 bytes.
     pub fn fields(b: &[u8]) -> BlockHeader
         requires { ⌜ 24 ≤ length (now b) ⌝ }

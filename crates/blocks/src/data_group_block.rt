@@ -53,7 +53,7 @@ impl DataGroupBlock {
             HeaderRead::Refused(e) => DataGroupBlockRead::Refused(e),
             HeaderRead::Header(header) => {
                 let at = offset as usize;
-                let end = at + 64;
+                let end = at + DataGroupBlock::MIN_LEN as usize;
                 DataGroupBlockRead::Block(DataGroupBlock::fields(&file[at..end]))
             }
         }

@@ -1,16 +1,18 @@
 // A data list, ##DL, as data_list_block.rs reads it. Its mark is not tested.
 ghost use mathlib.Core.Path.{_≡_};
 ghost use mathlib.Core.Bool.{cond};
-ghost use Prim.Native.Nat.{_+_, _*_, _%_, _≤_};
+ghost use Prim.Native.Nat.{ℕ, _+_, _*_, _%_, _≤_};
 ghost use lib.Dec.{eqb};
 ghost use lib.ListN.{length};
 ghost use Rattle.mdf4.specs.Bytes.{num};
 ghost use Rattle.mdf4.specs.Act.{DL};
+ghost use Rattle.mdf4.specs.Kinds.{shape, leads-to};
 ghost use Rattle.blocks.specs.Parse.{parsed};
 ghost use Rattle.blocks.specs.Extents.{extent-read};
 ghost use Rattle.blocks.specs.DataListBlock.{data-list-block-read, data-list-block-of, behind-links, ListFits};
 use crate::common::BlockHeader;
 use crate::common::HeaderRead;
+use crate::common::leads_to;
 use crate::common::wide;
 use crate::error::MdfError;
 use crate::extent::Extent;
@@ -39,7 +41,17 @@ impl DataListBlock {
     // "##DL"
     pub const ID: u32 = 0x4c44_2323;
 
-    pub const MIN_LEN: u64 = 24;
+    pub const MIN_LEN: u64 = BlockHeader::LEN;
+
+    // What is read beside the links and the words behind them: the header, flags and count.
+    pub const FIXED_LEN: u64 = BlockHeader::LEN + 8;
+
+    // Whether a link leads to a data list, by what was found at its target.
+    pub fn is_target(found: u64) -> bool
+        ensures { λ r. ⌜ ((t : ℕ) → r ≡ leads-to (shape DL .mark) (record { target = t; found = found })) ⌝ }
+    {
+        leads_to(found, DataListBlock::ID)
+    }
 
     // The link at place i of the block at `offset`: 0 is `next`.
     pub fn data_link(file: &[u8], offset: u64, i: u64) -> u64
@@ -94,7 +106,7 @@ impl DataListBlock {
         ensures { λ r. ⌜ extent-read r ≡ behind-links (now (file .entry)) offset «links_nr» ⌝ }
     {
         let len = file.len() as u64;
-        match need_from_block(len, offset, 32, links_nr) {
+        match need_from_block(len, offset, DataListBlock::FIXED_LEN, links_nr) {
             Extent::Refused(e) => Extent::Refused(e),
             Extent::Bytes(n) => {
                 let at = offset as usize + 24 + 8 * links_nr as usize;

@@ -64,7 +64,7 @@ impl HeaderBlock {
             HeaderRead::Refused(e) => HeaderBlockRead::Refused(e),
             HeaderRead::Header(header) => {
                 let at = offset as usize;
-                let end = at + 104;
+                let end = at + HeaderBlock::MIN_LEN as usize;
                 HeaderBlockRead::Block(HeaderBlock::fields(&file[at..end]))
             }
         }

@@ -3,6 +3,7 @@
 pub mod channel_block;
 pub mod channel_group_block;
 pub mod common;
+pub mod data_block;
 pub mod data_group_block;
 pub mod data_list_block;
 pub mod data_type;

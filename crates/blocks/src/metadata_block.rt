@@ -3,6 +3,7 @@ ghost use Rattle.mdf4.specs.Act.{MD};
 ghost use Rattle.mdf4.specs.Describe.{md-text};
 ghost use Rattle.blocks.specs.TextBlock.{TextRead};
 ghost use Rattle.blocks.specs.MetadataBlock.{metadata-block-read};
+use crate::common::BlockHeader;
 use crate::error::MdfError;
 use crate::text_block::TextRangeRead;
 use crate::text_block::text_range;
@@ -24,13 +25,13 @@ impl MetadataBlock {
     // "##MD"
     pub const ID: u32 = 0x444d_2323;
 
-    pub const MIN_LEN: u64 = 24;
+    pub const MIN_LEN: u64 = BlockHeader::LEN;
 
     // NULs are off both ends.
     pub fn parse(file: &[u8], offset: u64) -> MetadataBlockRead
         ensures { λ r. ⌜ TextRead MD md-text (now (file .entry)) offset (metadata-block-read r) ⌝ }
     {
-        match text_range(file, offset) {
+        match text_range(file, offset, MetadataBlock::MIN_LEN) {
             TextRangeRead::Refused(e) => MetadataBlockRead::Refused(e),
             TextRangeRead::Range(range) => {
                 let xml = trim_nuls(file, range.from, range.to);

@@ -29,15 +29,15 @@ pub fn read_text_at(file: &[u8], addr: u64) -> NameRead
     if addr == 0 {
         return NameRead::None;
     }
-    if 0xffff_ffff_ffff_ffff - addr < 24 {
-        return past_u64(addr, 24);
+    if 0xffff_ffff_ffff_ffff - addr < TextBlock::MIN_LEN {
+        return past_u64(addr, TextBlock::MIN_LEN);
     }
     let len = file.len() as u64;
-    if len < addr + 24 {
+    if len < addr + TextBlock::MIN_LEN {
         return NameRead::None;
     }
     let at = addr as usize;
-    let from = at + 24;
+    let from = at + TextBlock::MIN_LEN as usize;
     let header = BlockHeader::fields(&file[at..from]);
     if header.id != TextBlock::ID {
         return NameRead::None;
@@ -46,7 +46,7 @@ pub fn read_text_at(file: &[u8], addr: u64) -> NameRead
     if 0xffff_ffff_ffff_ffff - addr < block_len {
         return past_u64(addr, block_len);
     }
-    if block_len < 24 {
+    if block_len < TextBlock::MIN_LEN {
         return NameRead::Refused(MdfError::ShortName {
             place: addr,
             block_len,

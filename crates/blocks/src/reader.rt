@@ -39,7 +39,7 @@ pub fn header_at(file: &[u8], offset: u64, needed: u64) -> HeaderRead
         });
     }
     let at = offset as usize;
-    let end = at + 24;
+    let end = at + BlockHeader::LEN as usize;
     HeaderRead::Header(BlockHeader::fields(&file[at..end]))
 }
 

@@ -36,7 +36,10 @@ impl SourceBlock {
     // "##SI"
     pub const ID: u32 = 0x4953_2323;
 
-    pub const MIN_LEN: u64 = 24;
+    pub const MIN_LEN: u64 = BlockHeader::LEN;
+
+    // What is read beside the links: the header and 3 bytes of data.
+    pub const FIXED_LEN: u64 = BlockHeader::LEN + 3;
 
     // The link at place i, or 0 where there are fewer.
     fn link(b: &[u8], links_nr: u64, i: u64) -> u64
@@ -76,7 +79,7 @@ impl SourceBlock {
             HeaderRead::Refused(e) => Extent::Refused(e),
             HeaderRead::Header(header) => {
                 let len = file.len() as u64;
-                need_from_block(len, offset, 27, header.links_nr)
+                need_from_block(len, offset, SourceBlock::FIXED_LEN, header.links_nr)
             }
         }
     }

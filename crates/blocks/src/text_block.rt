@@ -28,15 +28,16 @@ fn larger(a: u64, b: u64) -> u64
     if a < b { b } else { a }
 }
 
-// The mark is not tested: by it the kind was chosen.
-pub fn text_range(file: &[u8], offset: u64) -> TextRangeRead
+// The mark is not tested: by it the kind was chosen. `least` is the kind's least length, which is its header's.
+pub fn text_range(file: &[u8], offset: u64, least: u64) -> TextRangeRead
+    requires { ⌜ least ≡ 24 ⌝ }
     ensures { λ r. ⌜ text-range-read r ≡ parsed (text-range-of offset) TX (now (file .entry)) offset ⌝ }
 {
-    match BlockHeader::parse(file, offset, TextBlock::MIN_LEN) {
+    match BlockHeader::parse(file, offset, least) {
         HeaderRead::Refused(e) => TextRangeRead::Refused(e),
         HeaderRead::Header(header) => {
             let block_len = header.block_len;
-            let expected = larger(TextBlock::MIN_LEN, block_len);
+            let expected = larger(least, block_len);
             let actual = file.len() as u64 - offset;
             if actual < expected {
                 return TextRangeRead::Refused(MdfError::TooShortBuffer {
@@ -45,7 +46,7 @@ pub fn text_range(file: &[u8], offset: u64) -> TextRangeRead
                     actual,
                 });
             }
-            let from = (offset + TextBlock::MIN_LEN) as usize;
+            let from = (offset + least) as usize;
             let to = (offset + expected) as usize;
             TextRangeRead::Range(TextRange {
                 block_len,
@@ -72,13 +73,13 @@ impl TextBlock {
     // "##TX"
     pub const ID: u32 = 0x5854_2323;
 
-    pub const MIN_LEN: u64 = 24;
+    pub const MIN_LEN: u64 = BlockHeader::LEN;
 
     // The text ends before its first NUL.
     pub fn parse(file: &[u8], offset: u64) -> TextBlockRead
         ensures { λ r. ⌜ TextRead TX tx-text (now (file .entry)) offset (text-block-read r) ⌝ }
     {
-        match text_range(file, offset) {
+        match text_range(file, offset, TextBlock::MIN_LEN) {
             TextRangeRead::Refused(e) => TextBlockRead::Refused(e),
             TextRangeRead::Range(range) => {
                 let from = range.from;

@@ -19,11 +19,16 @@ ghost use Rattle.tables.specs.Rows.{kind-of, row-at, held-rows, held-links};
 ghost use Rattle.clear_ranges.specs.Covers.{name-cover, cover, row-cover, target-cover, link-cover};
 ghost use Rattle.clear_ranges.specs.Lists.{ClearMet};
 use blocks::channel_block::ChannelBlock;
+use blocks::channel_group_block::ChannelGroupBlock;
+use blocks::common::BlockHeader;
 use blocks::common::wide;
 use blocks::data_group_block::DataGroupBlock;
+use blocks::data_list_block::DataListBlock;
 use blocks::error::MdfError;
 use blocks::header_block::HeaderBlock;
 use blocks::identification_block::IdentificationBlock;
+use blocks::metadata_block::MetadataBlock;
+use blocks::source_block::SourceBlock;
 use blocks::text_block::TextBlock;
 use byteorder::read_u8;
 use byteorder::read_u32;
@@ -72,11 +77,11 @@ fn list_len(file: &[u8], offset: u64) -> u64
 {
     let at = offset as usize;
     let links_nr = read_u64(file, at + 16);
-    let behind = at + (24 + 8 * links_nr as usize);
+    let behind = at + (BlockHeader::LEN as usize + 8 * links_nr as usize);
     if read_u8(file, behind) % 2 == 1 {
-        return 32 + 8 * links_nr + 8;
+        return DataListBlock::FIXED_LEN + 8 * links_nr + 8;
     }
-    32 + 8 * links_nr + 8 * wide(read_u32(file, behind + 4))
+    DataListBlock::FIXED_LEN + 8 * links_nr + 8 * wide(read_u32(file, behind + 4))
 }
 
 // The read bytes of a block of a kind.
@@ -95,24 +100,24 @@ fn read_len(file: &[u8], offset: u64, kind: u64) -> u64
         return DataGroupBlock::MIN_LEN;
     }
     if kind == CG {
-        return 24 + 8 * read_u64(file, at + 16) + 32;
+        return ChannelGroupBlock::FIXED_LEN + 8 * read_u64(file, at + 16);
     }
     if kind == CN {
         return ChannelBlock::MIN_LEN;
     }
     if kind == SI {
-        return 24 + 8 * read_u64(file, at + 16) + 3;
+        return SourceBlock::FIXED_LEN + 8 * read_u64(file, at + 16);
     }
     if kind == TX {
-        return larger(24, read_u64(file, at + 8));
+        return larger(TextBlock::MIN_LEN, read_u64(file, at + 8));
     }
     if kind == MD {
-        return larger(24, read_u64(file, at + 8));
+        return larger(MetadataBlock::MIN_LEN, read_u64(file, at + 8));
     }
     if kind == DL {
         return list_len(file, offset);
     }
-    24
+    BlockHeader::LEN
 }
 
 // The range of the channel name at `target`, where it is read.
@@ -124,19 +129,19 @@ fn put_name(file: &[u8], target: u64, scratch: &mut [u64], count: usize) -> usiz
     if target == 0 {
         return count;
     }
-    if len < 24 {
+    if len < TextBlock::MIN_LEN {
         return count;
     }
-    if len - 24 < target {
+    if len - TextBlock::MIN_LEN < target {
         return count;
     }
     let at = target as usize;
     if read_u32(file, at) != TextBlock::ID {
         return count;
     }
-    let size = larger(24, read_u64(file, at + 8));
+    let size = larger(TextBlock::MIN_LEN, read_u64(file, at + 8));
     if len - target < size {
-        return put_range(scratch, count, target, target + 24);
+        return put_range(scratch, count, target, target + TextBlock::MIN_LEN);
     }
     put_range(scratch, count, target, target + size)
 }

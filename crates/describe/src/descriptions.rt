@@ -22,15 +22,19 @@ ghost use Rattle.describe.specs.Info.{TextInside};
 use crate::BlockInfo;
 use blocks::channel_block::ChannelBlock;
 use blocks::channel_group_block::ChannelGroupBlock;
+use blocks::common::BlockHeader;
 use blocks::common::wide;
+use blocks::data_block::DataBlock;
 use blocks::data_group_block::DataGroupBlock;
 use blocks::data_list_block::DataListBlock;
 use blocks::data_type::put_data_type;
 use blocks::header_block::HeaderBlock;
 use blocks::identification_block::IdentificationBlock;
+use blocks::metadata_block::MetadataBlock;
 use blocks::name::NameRead;
 use blocks::name::read_text_at;
 use blocks::source_block::SourceBlock;
+use blocks::text_block::TextBlock;
 use byteorder::read_u64;
 use fmt::lossy_len;
 use fmt::put_bytes;
@@ -199,8 +203,8 @@ fn text_end(file: &[u8], offset: usize) -> usize
     ensures { λ r. ⌜ r ≡ offset + max 24 (num (now (file .entry)) (offset + 8) 8) ⌝ }
 {
     let block_len = read_u64(file, offset + 8);
-    if block_len < 24 {
-        return offset + 24;
+    if block_len < BlockHeader::LEN {
+        return offset + BlockHeader::LEN as usize;
     }
     offset + block_len as usize
 }
@@ -210,7 +214,7 @@ pub fn describe_text(out: &mut [u8], at: usize, file: &[u8], block: BlockInfo) -
     ensures { λ r. ⌜ Wrote (now (out .entry)) at (describe (now (file .entry)) (row-of block)) (now (out .exit)) r ⌝ }
 {
     let offset = block.offset as usize;
-    let from = offset + 24;
+    let from = offset + TextBlock::MIN_LEN as usize;
     let to = before_nul(file, from, text_end(file, offset));
     let a = put_bytes(out, at, b"Text: \"");
     let a = put_preview(out, a, file, from, to, PREVIEW, false);
@@ -227,7 +231,8 @@ pub fn describe_metadata(out: &mut [u8], at: usize, file: &[u8], block: BlockInf
     ensures { λ r. ⌜ Wrote (now (out .entry)) at (describe (now (file .entry)) (row-of block)) (now (out .exit)) r ⌝ }
 {
     let offset = block.offset as usize;
-    let xml = trim_nuls(file, offset + 24, text_end(file, offset));
+    let from = offset + MetadataBlock::MIN_LEN as usize;
+    let xml = trim_nuls(file, from, text_end(file, offset));
     let a = put_format(
         out,
         at,
@@ -241,7 +246,11 @@ pub fn describe_metadata(out: &mut [u8], at: usize, file: &[u8], block: BlockInf
 pub fn payload(size: u64) -> u64
     ensures { λ r. ⌜ r ≡ size - 24 ⌝ }
 {
-    if size < 24 { 0 } else { size - 24 }
+    if size < DataBlock::MIN_LEN {
+        0
+    } else {
+        size - DataBlock::MIN_LEN
+    }
 }
 
 pub fn describe_data(out: &mut [u8], at: usize, file: &[u8], block: BlockInfo) -> usize

@@ -1,13 +1,12 @@
 -- Data blocks: the kinds of which the header alone is read, and a block that is marked and listed. Assumes nothing.
 use mathlib.Core.Path.{_≡_, refl, sym, ap, _∙_}
-use mathlib.Core.Bool.{true, false, _||_}
+use mathlib.Core.Bool.{true, false}
 use mathlib.Core.List.{List, []}
 use mathlib.Core.Logic.{_⊎_, inl, inr}
 use Prim.Native.Nat.{ℕ, _+_, _≤_, _<_}
-use lib.Dec.{eqb}
 use lib.ListN.{length}
 use borrow.Author.Tests.{le-leb, lt-leb, eq-eqb, ne-eqb}
-use Rattle.mdf4.specs.Bytes.{num, little}
+use Rattle.mdf4.specs.Bytes.{num}
 use Rattle.mdf4.specs.Act.{Refusal, ok, err, Kind, DT, SD, UD, Link, State, elem, choose, pure, sized, _>>_, visit}
 use Rattle.mdf4.specs.Kinds.{shape, is, block-len, RecordLayout, no-records, records-in, read-block, mark-in, name-ok, leads-to}
 use Rattle.mdf4.specs.Walk.{content-ok, enter, record-data-block, record-unknown-block, leads-to-data, walk-data-block}
@@ -119,16 +118,6 @@ pub data-unknown : Data UD (no-records 0) 13 0 0 0
 unfolding shape is records-in
 data-unknown = record { one = inr (inr refl); number = refl; records = λ o. refl }
 
--- the marks as the code has them, each with 1 more
-pub data-marks : (t f : ℕ)
-    → leads-to-data (record { target = t; found = f }) ≡ eqb f 1413751588 || eqb f 1447306020 || eqb f 1146233636 || eqb f 1448223524
-unfolding leads-to-data leads-to little
-data-marks t f = refl
-
-signal-mark : (l : Link) → leads-to (shape SD .mark) l ≡ eqb (l .found) 1146299172
-unfolding leads-to shape little
-signal-mark l = refl
-
 -- by the mark found
 module _ (h : RecordLayout) (l : Link) (r : List ℕ) (s : State) where
   pub block-none : l .found ≡ 0 → said (walk-data-block h l r s) ≡ ok s
@@ -141,10 +130,10 @@ module _ (h : RecordLayout) (l : Link) (r : List ℕ) (s : State) where
     block-data e = rw (ne-eqb (l .found) 0 n, e)
 
     module _ (m : leads-to-data l ≡ false) where
-      pub block-signal : l .found ≡ 1146299172 → walk-data-block h l r s ≡ record-data-block SD (l .target) (no-records 0) r s
+      pub block-signal : leads-to (shape SD .mark) l ≡ true → walk-data-block h l r s ≡ record-data-block SD (l .target) (no-records 0) r s
       unfolding walk-data-block choose
-      block-signal e = let f = signal-mark l ∙ eq-eqb (l .found) 1146299172 e in rw (ne-eqb (l .found) 0 n, m, f)
+      block-signal e = rw (ne-eqb (l .found) 0 n, m, e)
 
-      pub block-unknown : (l .found ≡ 1146299172 → ⊥) → walk-data-block h l r s ≡ record-unknown-block (l .target) r s
+      pub block-unknown : leads-to (shape SD .mark) l ≡ false → walk-data-block h l r s ≡ record-unknown-block (l .target) r s
       unfolding walk-data-block choose
-      block-unknown e = let f = signal-mark l ∙ ne-eqb (l .found) 1146299172 e in rw (ne-eqb (l .found) 0 n, m, f)
+      block-unknown e = rw (ne-eqb (l .found) 0 n, m, e)

@@ -6,10 +6,8 @@ use Prim.Native.Nat.{ℕ, zero, suc, _+_, _*_, _-_, _≤_, _<_}
 use native.Mathlib.Omega.{arith}
 use native.Mathlib.Nat.{not-suc-le-zero}
 use native.Mathlib.Numerals.{add-one}
-use lib.Dec.{eqb}
 use lib.ListN.{length, getD, drop, length-map, drop-of-length-le, List·getD-map}
 use lib.Seq.{drop-cons}
-use borrow.Author.Tests.{eq-eqb, ne-eqb}
 use types.Run.{OneOf, miss}
 use denote.Enum.Declared.{tagOf}
 use Rattle.mdf4.specs.Bytes.{little, num, words}
@@ -32,22 +30,17 @@ use Rattle.walk_blocks.proofs.Entering.{then-on, then-off}
 use Rattle.walk_blocks.proofs.DataBlocks.{block-none}
 use Rattle.walk_blocks.proofs.DataLists.{words-length, words-at}
 
--- the mark as the code has it, with 1 more
-list-mark : (l : Link) → leads-to (shape DL .mark) l ≡ eqb (l .found) 1279533860
-unfolding leads-to shape little
-list-mark l = refl
-
 -- a region by the mark found
 module _ (h : RecordLayout) (l : Link) (r : List ℕ) (s : State) where
-  pub region-list : (d : ℕ) → l .found ≡ 1279533860 → walk-data-region d h l r s ≡ data-list d h (l .target) r s
+  pub region-list : (d : ℕ) → leads-to (shape DL .mark) l ≡ true → walk-data-region d h l r s ≡ data-list d h (l .target) r s
   unfolding walk-data-region data-list choose
-  region-list zero e = let f = list-mark l ∙ eq-eqb (l .found) 1279533860 e in rw f
-  region-list (suc d) e = let f = list-mark l ∙ eq-eqb (l .found) 1279533860 e in rw f
+  region-list zero e = rw e
+  region-list (suc d) e = rw e
 
-  pub region-block : (d : ℕ) → (l .found ≡ 1279533860 → ⊥) → walk-data-region d h l r s ≡ walk-data-block h l r s
+  pub region-block : (d : ℕ) → leads-to (shape DL .mark) l ≡ false → walk-data-region d h l r s ≡ walk-data-block h l r s
   unfolding walk-data-region choose
-  region-block zero n = let f = list-mark l ∙ ne-eqb (l .found) 1279533860 n in rw f
-  region-block (suc d) n = let f = list-mark l ∙ ne-eqb (l .found) 1279533860 n in rw f
+  region-block zero e = rw e
+  region-block (suc d) e = rw e
 
 -- the links ls of a list: the data links first, then next
 abbrev in-order : (Link → Act (Unit {0})) → List Link → Act (Unit {0})
@@ -55,8 +48,8 @@ in-order f ls = each f (drop 1 ls) >> f (getD ls 0 null)
 
 -- where there is no link there is nothing to walk
 none-left : (d : ℕ) (h : RecordLayout) (r : List ℕ) (s : State) → said (in-order (walk-data-region d h) [] r s) ≡ ok s
-unfolding each pure _>>_ and-then
-none-left d h r s = ap said (region-block h null r s d (λ e. absurd (omega (arith, e)))) ∙ block-none h null r s refl
+unfolding each pure _>>_ and-then leads-to shape little
+none-left d h r s = ap said (region-block h null r s d refl) ∙ block-none h null r s refl
 
 -- a list that is listed, and what is done with its links
 module _ (f : List Link → Act (Unit {0})) (r : List ℕ) (k : State → Result Stop (Block × State)) where

@@ -11,9 +11,9 @@ ghost use Rattle.mdf4.specs.Walk as walk;
 ghost use Rattle.walk_state.specs.Held.{held, said, state-of, checked, Within, Met, Linked, Tells, Counted};
 ghost use Rattle.walk_blocks.specs.Regions.{layout, Data, open-list, enter-list, links-from, data-list, Opens, Deep, handed-up, no-list, not-opened};
 use crate::reads::no_header;
-use blocks::common::BlockHeader;
 use blocks::common::HeaderRead;
 use blocks::common::wide;
+use blocks::data_block::DataBlock;
 use blocks::data_list_block::DataListBlock;
 use blocks::data_list_block::DataListBlockRead;
 use blocks::error::MdfError;
@@ -65,7 +65,7 @@ fn list_header(
     requires { ⌜ Counted w (now links) ⌝ }
     ensures { λ r. ⌜ ((k : spec.Kind) (h : kinds.RecordLayout) (v : List ℕ) → Data k h kind «record_size» «invalidation_bytes» «record_id_len» → Within w v (now (blocks .entry)) (now (links .entry)) → Met w r v (now (blocks .exit)) (now (links .exit)) (said (walk.enter k addr h (now (file .entry)) (held w v (now (blocks .entry)) (now (links .entry)))))) ⌝ }
 {
-    let read = BlockHeader::parse(file, addr, 24);
+    let read = DataBlock::parse(file, addr);
     let HeaderRead::Header(header) = read else {
         return no_header(read, w);
     };
@@ -181,32 +181,13 @@ pub fn record_unknown_block(
         return r;
     };
     let len = file.len() as u64;
-    if len < 24 {
+    if len < DataBlock::MIN_LEN {
         return Walked::On(w1);
     }
-    if len - 24 < addr {
+    if len - DataBlock::MIN_LEN < addr {
         return Walked::On(w1);
     }
     list_header(file, blocks, links, w1, UD, addr, 0, 0, 0)
-}
-
-// Whether 1 + a mark is that of ##DT, ##DV, ##RD or ##RV.
-fn leads_to_data(found: u64) -> bool
-    ensures { λ r. ⌜ ((t : ℕ) → r ≡ walk.leads-to-data (record { target = t; found = found })) ⌝ }
-{
-    if found == 0x5444_2324 {
-        return true;
-    }
-    if found == 0x5644_2324 {
-        return true;
-    }
-    if found == 0x4452_2324 {
-        return true;
-    }
-    if found == 0x5652_2324 {
-        return true;
-    }
-    false
 }
 
 // What a data link leads to where that is no data list, by the mark found.
@@ -228,7 +209,7 @@ pub fn walk_data_block(
     if found == 0 {
         return Walked::On(w);
     }
-    if leads_to_data(found) {
+    if DataBlock::is_target(found) {
         return record_simple_data_block(
             file,
             visited,
@@ -241,8 +222,7 @@ pub fn walk_data_block(
             record_id_len,
         );
     }
-    // "##SD"
-    if found == 0x4453_2324 {
+    if DataBlock::is_signal_target(found) {
         return record_signal_data_block(file, visited, blocks, links, w, target);
     }
     record_unknown_block(file, visited, blocks, links, w, target)
@@ -413,8 +393,7 @@ pub fn walk_data_region(
     requires { ⌜ Within w (now visited) (now blocks) (now links) ⌝ }
     ensures { λ r. ⌜ Met w r (now (visited .exit)) (now (blocks .exit)) (now (links .exit)) (said (walk.walk-data-region depth (layout «record_size» «invalidation_bytes» «record_id_len») (record { target = target; found = found }) (now (file .entry)) (held w (now (visited .entry)) (now (blocks .entry)) (now (links .entry))))) ⌝ }
 {
-    // "##DL"
-    if found == 0x4c44_2324 {
+    if DataListBlock::is_target(found) {
         return walk_data_list(
             file,
             visited,

@@ -100,7 +100,7 @@ fn enter_ut(file: &[u8], blocks: &mut [u64], links: &mut [u64], w: Walk, addr: u
     requires { ⌜ Counted w (now links) ⌝ }
     ensures { λ r. ⌜ ((v : List ℕ) → Within w v (now (blocks .entry)) (now (links .entry)) → Met w r v (now (blocks .exit)) (now (links .exit)) (said (walk.enter UT addr (no-records 0) (now (file .entry)) (held w v (now (blocks .entry)) (now (links .entry)))))) ⌝ }
 {
-    let read = BlockHeader::parse(file, addr, 24);
+    let read = BlockHeader::parse(file, addr, BlockHeader::LEN);
     let HeaderRead::Header(header) = read else {
         return no_header(read, w);
     };
@@ -145,14 +145,14 @@ pub fn walk_text_like(
     let Walked::On(on) = r else {
         return r;
     };
-    if 0xffff_ffff_ffff_ffe7 < addr {
+    if 0xffff_ffff_ffff_ffff - BlockHeader::LEN < addr {
         return Walked::Refused(MdfError::SumOverflow {
             place: addr,
             a: addr,
-            b: 24,
+            b: BlockHeader::LEN,
         });
     }
-    if (file.len() as u64) < addr + 24 {
+    if (file.len() as u64) < addr + BlockHeader::LEN {
         return Walked::On(on);
     }
     enter_text(file, blocks, links, on, addr)

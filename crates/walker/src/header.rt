@@ -28,7 +28,7 @@ const ID: u64 = 1;
 const HD: u64 = 2;
 
 // The identification stands at 0, the header behind it.
-const HEADER_AT: u64 = 64;
+const HEADER_AT: u64 = IdentificationBlock::MIN_LEN;
 
 // The answer where no identification was read.
 fn no_identification(read: IdentificationBlockRead, w: Walk) -> Walked

@@ -36,11 +36,6 @@ add-result c =
     let a = c .before .before .before .before .before .before .args in
     omega (arith, len-cg (a .file .now) (a .offset) (a .kind) (c .before .if4 .taken))
 
-add-result-2 : tie.Need-add-result-2
-add-result-2 c =
-    let a = c .before .before .before .before .before .before .args in
-    omega (arith, len-cg (a .file .now) (a .offset) (a .kind) (c .before .if4 .taken))
-
 returns-4 : tie.Need-returns-4
 returns-4 c =
     let a = c .before .before .before .before .before .before .args in
@@ -61,13 +56,8 @@ mul-result-2 c =
     let a = c .before .before .before .before .before .before .before .before .args in
     omega (arith, len-si (a .file .now) (a .offset) (a .kind) (c .before .if6 .taken))
 
-add-result-3 : tie.Need-add-result-3
-add-result-3 c =
-    let a = c .before .before .before .before .before .before .before .before .args in
-    omega (arith, len-si (a .file .now) (a .offset) (a .kind) (c .before .if6 .taken))
-
-add-result-4 : tie.Need-add-result-4
-add-result-4 c =
+add-result-2 : tie.Need-add-result-2
+add-result-2 c =
     let a = c .before .before .before .before .before .before .before .before .args in
     omega (arith, len-si (a .file .now) (a .offset) (a .kind) (c .before .if6 .taken))
 
@@ -122,14 +112,12 @@ read-len-spec =
     read-u64-requires
     mul-result
     add-result
-    add-result-2
     returns-4
     returns-5
     (λ c. search needs)
     read-u64-requires-2
     mul-result-2
-    add-result-3
-    add-result-4
+    add-result-2
     returns-6
     (λ c. search needs)
     read-u64-requires-3

@@ -1,6 +1,6 @@
 -- `walk_data_links`, `walk_data_list` and `walk_data_region` meet their contracts: they call each other, and the depth falls at each list entered.
 use Prim.Native.Nat.{ℕ, _<_, _+_, _-_, _*_}
-use mathlib.Core.Path.{_≡_, refl, ap, _∙_}
+use mathlib.Core.Path.{_≡_, refl, sym, ap, _∙_}
 use native.Mathlib.Omega.{arith}
 use native.Mathlib.Nat.{le-refl}
 use lib.ListN.{length}
@@ -26,6 +26,7 @@ use Rattle.blocks.proofs.data_list_block.DataListBlock.data_link.Reads as data-
 use Rattle.walk_blocks.proofs.regions.enter_list.Reads as enter-list-reads
 use Rattle.walk_blocks.proofs.regions.not_entered.Reads as not-entered-reads
 use Rattle.walk_blocks.proofs.regions.walk_data_block.Reads as walk-data-block-reads
+use Rattle.blocks.proofs.data_list_block.DataListBlock.is_target.Reads as is-target-reads
 use Rattle.walk_state.proofs.make_link.Reads as make-link-reads
 use Rattle.walk_blocks.proofs.regions.+walk_data_links+walk_data_list+walk_data_region.{statement}
 use Rattle.walk_blocks.proofs.regions.+walk_data_links+walk_data_list+walk_data_region.Tie.{close}
@@ -78,7 +79,7 @@ list-calls t =
 
 abbrev region-calls : ℕ → region-lts.Claims
 region-calls t =
-    (list-below t, list.Post, walk-data-block-reads.Asked, walk-data-block-reads.Learnt)
+    (is-target-reads.Asked, is-target-reads.Learnt, list-below t, list.Post, walk-data-block-reads.Asked, walk-data-block-reads.Learnt)
 
 links-loop-holds : (t : ℕ) → links-lts.Need-loop-holds (links-calls t) (links-at t) links.Post links-Inv-loop links-μ-loop
 links-loop-holds t c =
@@ -157,17 +158,17 @@ list-returns-3 t c =
 
 region-returns : (t : ℕ) → region-lts.Need-returns (region-calls t) (region-at t) region.Post
 region-returns t c =
-    let a = c .before .before .before .before .before .before .before .before .before .before .before .before .before .before .before .args in
+    let a = c .before .before .before .before .before .before .before .before .before .before .before .before .before .before .before .before .args in
     let h : RecordLayout = layout (a .record-size) (a .invalidation-bytes) (a .record-id-len) in
     let l : Link = record { target = a .target; found = a .found } in
-    last (c .before .before .before .before .before .before .walk-data-list .ensures) (le-refl _) (ap said (region-list h l (a .file .now) (held (a .w) (a .visited .now) (a .blocks .now) (a .links .now)) (a .depth) (c .before .before .before .before .before .before .before .before .before .before .if1 .taken)))
+    last (c .before .before .before .before .before .before .walk-data-list .ensures) (le-refl _) (ap said (region-list h l (a .file .now) (held (a .w) (a .visited .now) (a .blocks .now) (a .links .now)) (a .depth) (sym (c .before .before .before .before .before .before .before .before .before .before .before .is-target .ensures (a .target)) ∙ c .before .before .before .before .before .before .before .before .before .before .if1 .taken)))
 
 region-returns-2 : (t : ℕ) → region-lts.Need-returns-2 (region-calls t) (region-at t) region.Post
 region-returns-2 t c =
-    let a = c .before .before .before .before .before .before .before .before .before .before .before .before .before .before .before .args in
+    let a = c .before .before .before .before .before .before .before .before .before .before .before .before .before .before .before .before .args in
     let h : RecordLayout = layout (a .record-size) (a .invalidation-bytes) (a .record-id-len) in
     let l : Link = record { target = a .target; found = a .found } in
-    last (c .before .before .before .before .before .before .walk-data-block .ensures) (le-refl _) (ap said (region-block h l (a .file .now) (held (a .w) (a .visited .now) (a .blocks .now) (a .links .now)) (a .depth) (c .before .before .before .before .before .before .before .before .before .before .if1 .left)))
+    last (c .before .before .before .before .before .before .walk-data-block .ensures) (le-refl _) (ap said (region-block h l (a .file .now) (held (a .w) (a .visited .now) (a .blocks .now) (a .links .now)) (a .depth) (sym (c .before .before .before .before .before .before .before .before .before .before .before .is-target .ensures (a .target)) ∙ c .before .before .before .before .before .before .before .before .before .before .if1 .left)))
 
 pub +walk-data-links+walk-data-list+walk-data-region-spec : {M : Type 1} → statement M
 +walk-data-links+walk-data-list+walk-data-region-spec =
@@ -221,6 +222,7 @@ pub +walk-data-links+walk-data-list+walk-data-region-spec : {M : Type 1} → sta
     λ t. region-lts.spec (region-calls t)
     (region-at t)
     region.Post
+    (λ c κs. search needs)
     (λ c κs. search needs)
     (λ c. search needs)
     (λ c. search needs)

@@ -23,27 +23,27 @@ returns-2 c =
     let a = c .before .before .before .before .before .before .before .before .before .before .before .before .before .before .before .before .before .args in
     let h : RecordLayout = layout (a .record-size) (a .invalidation-bytes) (a .record-id-len) in
     let l : Link = record { target = a .target; found = a .found } in
-    let m = sym (c .before .before .before .before .before .before .before .before .before .before .before .leads-to-data .ensures (a .target)) ∙ c .before .before .before .before .before .before .before .before .before .before .if2 .taken in
+    let m = sym (c .before .before .before .before .before .before .before .before .before .before .before .is-target .ensures (a .target)) ∙ c .before .before .before .before .before .before .before .before .before .before .if2 .taken in
     last (c .before .before .before .before .before .before .record-simple-data-block .ensures) (le-refl _)
     (ap said (block-data h l (a .file .now) (held (a .w) (a .visited .now) (a .blocks .now) (a .links .now)) (c .before .before .before .before .before .before .before .before .before .before .before .before .if1 .left) m))
 
 returns-3 : tie.Need-returns-3
 returns-3 c =
-    let a = c .before .before .before .before .before .before .before .before .before .before .before .before .before .before .before .before .before .before .args in
+    let a = c .before .before .before .before .before .before .before .before .before .before .before .before .before .before .before .before .before .before .before .args in
     let h : RecordLayout = layout (a .record-size) (a .invalidation-bytes) (a .record-id-len) in
     let l : Link = record { target = a .target; found = a .found } in
-    let m = sym (c .before .before .before .before .before .before .before .before .before .before .before .before .leads-to-data .ensures (a .target)) ∙ c .before .before .before .before .before .before .before .before .before .before .before .if2 .left in
+    let m = sym (c .before .before .before .before .before .before .before .before .before .before .before .before .before .is-target .ensures (a .target)) ∙ c .before .before .before .before .before .before .before .before .before .before .before .before .if2 .left in
     last (c .before .before .before .before .before .before .record-signal-data-block .ensures) (le-refl _)
-    (ap said (block-signal h l (a .file .now) (held (a .w) (a .visited .now) (a .blocks .now) (a .links .now)) (c .before .before .before .before .before .before .before .before .before .before .before .before .before .if1 .left) m (c .before .before .before .before .before .before .before .before .before .before .if3 .taken)))
+    (ap said (block-signal h l (a .file .now) (held (a .w) (a .visited .now) (a .blocks .now) (a .links .now)) (c .before .before .before .before .before .before .before .before .before .before .before .before .before .before .if1 .left) m (sym (c .before .before .before .before .before .before .before .before .before .before .before .is-signal-target .ensures (a .target)) ∙ c .before .before .before .before .before .before .before .before .before .before .if3 .taken)))
 
 returns-4 : tie.Need-returns-4
 returns-4 c =
-    let a = c .before .before .before .before .before .before .before .before .before .before .before .before .before .before .before .before .before .before .args in
+    let a = c .before .before .before .before .before .before .before .before .before .before .before .before .before .before .before .before .before .before .before .args in
     let h : RecordLayout = layout (a .record-size) (a .invalidation-bytes) (a .record-id-len) in
     let l : Link = record { target = a .target; found = a .found } in
-    let m = sym (c .before .before .before .before .before .before .before .before .before .before .before .before .leads-to-data .ensures (a .target)) ∙ c .before .before .before .before .before .before .before .before .before .before .before .if2 .left in
+    let m = sym (c .before .before .before .before .before .before .before .before .before .before .before .before .before .is-target .ensures (a .target)) ∙ c .before .before .before .before .before .before .before .before .before .before .before .before .if2 .left in
     last (c .before .before .before .before .before .before .record-unknown-block .ensures) (le-refl _)
-    (ap said (block-unknown h l (a .file .now) (held (a .w) (a .visited .now) (a .blocks .now) (a .links .now)) (c .before .before .before .before .before .before .before .before .before .before .before .before .before .if1 .left) m (c .before .before .before .before .before .before .before .before .before .before .if3 .left)))
+    (ap said (block-unknown h l (a .file .now) (held (a .w) (a .visited .now) (a .blocks .now) (a .links .now)) (c .before .before .before .before .before .before .before .before .before .before .before .before .before .before .if1 .left) m (sym (c .before .before .before .before .before .before .before .before .before .before .before .is-signal-target .ensures (a .target)) ∙ c .before .before .before .before .before .before .before .before .before .before .if3 .left)))
 
 pub walk-data-block-spec : {M : Type 1} → statement M
 walk-data-block-spec =
@@ -56,6 +56,7 @@ walk-data-block-spec =
     (λ c. search needs)
     (λ c. search needs)
     returns-2
+    (λ c κs. search needs)
     (λ c κs. search needs)
     (λ c. search needs)
     (λ c. search needs)

@@ -76,6 +76,7 @@ walk-text-like-spec =
     (λ c. search needs)
     returns-3
     (λ c. search needs)
+    (λ c. search needs)
     returns-4
     (λ c. search needs)
     (λ c. search needs)
