@@ -137,13 +137,13 @@ pub fn count_chars(s: &[u8], at: usize, end: usize) -> usize
     ensures { λ r. ⌜ r ≡ char-count (slice at end (now (s .entry))) ⌝ }
 {
     let mut i = at;
-    let mut n = 0;
+    let mut count = 0;
     while i < end {
         let w = width(step_at(s, i, end));
         i += w;
-        n += 1;
+        count += 1;
     }
-    n
+    count
 }
 
 // Where the first `n` characters of the text end.

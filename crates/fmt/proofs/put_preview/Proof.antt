@@ -1,4 +1,5 @@
 -- `fmt::put_preview` meets its contract. Assumes nothing.
+use native.Mathlib.Omega.{arith}
 use borrow.Author.Needs.{needs}
 use lib.Seq.{slice}
 use Rattle.fmt.proofs.Preview.{preview-all, preview-cut}
@@ -9,7 +10,7 @@ returns : tie.Need-returns
 returns c =
     let a = c .before .before .before .before .before .before .before .before .args in
     let k = c .before .before .before .before .before .count-chars in
-    preview-all (a .one) (a .n) (slice (a .from) (a .end) (a .s .now)) (k .result) (k .ensures) (c .before .before .before .before .if1 .taken)
+    preview-all (a .one) (a .n) (slice (a .from) (a .end) (a .s .now)) (k .result) (k .ensures) (omega (arith, c .before .before .before .before .if1 .taken))
     (c .before .before .put-chunks .ensures)
 
 returns-2 : tie.Need-returns-2
@@ -18,7 +19,7 @@ returns-2 c =
     let k = c .before .before .before .before .before .before .before .before .before .before .before .count-chars in
     let r = c .before .before .before .before .before .before .before .before .before .chars-end in
     preview-cut (a .one) (a .n) (slice (a .from) (a .end) (a .s .now)) (k .result) (k .ensures) (slice (a .from) (r .result) (a .s .now))
-    (c .before .before .before .before .before .before .before .before .before .before .if1 .left) (r .ensures .text)
+    (omega (arith, c .before .before .before .before .before .before .before .before .before .before .if1 .left)) (r .ensures .text)
     (c .before .before .before .before .before .before .before .put-chunks2 .ensures) (c .before .before .put-bytes .ensures)
 
 pub put-preview-spec : {M : Type 1} → statement M

@@ -11,10 +11,10 @@ use Rattle.utf8.proofs.count_chars.Statement.{statement}
 use Rattle.utf8.proofs.count_chars.Tie as tie
 
 abbrev Inv-loop : tie.InvT-loop
-Inv-loop s at end i₀ n₀ i n = (at ≤ i) × (i ≤ end) × (n ≤ i) × (n + char-count (slice i end s) ≡ char-count (slice at end s))
+Inv-loop s at end i₀ count₀ i count = (at ≤ i) × (i ≤ end) × (count ≤ i) × (count + char-count (slice i end s) ≡ char-count (slice at end s))
 
 abbrev μ-loop : tie.MeasureT-loop
-μ-loop s at end i₀ n₀ i n = end - i
+μ-loop s at end i₀ count₀ i count = end - i
 
 -- what the step and its width tell, at the place after the two calls
 stepped : (c : tie.After-width Inv-loop μ-loop)
