@@ -1,9 +1,24 @@
-//! Compares the static library with the Rust on recordings: compare NAMES, a file with a name a line. See compare.sh.
+//! Holds the static library beside the Rust, in one process, on recordings. See compare.sh.
+//!
+//!   compare NAMES                       on those that the file NAMES lists, a name a line
+//!   compare NAMES --damage SEED COUNT   on COUNT made from those in memory, each by one to four seeded damages
 //!
 //! The oracle's program is part of this one (ORACLE_MAIN names a copy of its main.rs whose `main` is renamed), so the Rust runs here,
-//! unchanged, beside the library: all words of the tables, listing and tree byte for byte, or the refusal's four numbers and all lent
-//! memory zero. The Rust has no clear list: of it is asked that blanking its ranges changes no answer. All lent memory is filled with
-//! ones before each call. Prints each recording that differs.
+//! unchanged. All four entries are called: compared are all words of the tables, listing and tree byte for byte, or the refusal's four
+//! numbers and all lent memory zero. The Rust has no clear list: its bytes are drawn here from the Rust's rows by document 01's text,
+//! and zeroing its ranges must change neither the library's answers nor the Rust's. Of accepted recordings the lent lengths are varied:
+//! all just long enough, then each table a word short and the output a byte short (10 to 14). That is done for one damaged recording in
+//! eight; for the others with the scratch table only. All lent memory is filled with ones before each call, and so is one word or byte
+//! behind it, which must stay.
+//!
+//! Only recordings of at most 8,192 bytes are damaged, so that a million take minutes. Damaged are single bytes, the identification's
+//! fields, marks, block_len and links_nr, links, and the fields behind them; bytes are appended, linked blocks copied elsewhere, and
+//! recordings cut. Blocks are those that the Rust lists; where it refuses, those whose marks are found. What is made depends on SEED,
+//! the index and the recordings of NAMES, nothing else.
+//!
+//! Prints each recording that differs or whose answer by the Rust has no number, then counts. With --damage, such a recording is
+//! written beside the program as differs-SEED-INDEX.mf4, and the status is 1 if any differs: small recordings reach none of the
+//! differences that the oracle has no number for.
 include!(env!("ORACLE_MAIN"));
 
 #[link(name = "block_layout_c", kind = "static")]
@@ -46,7 +61,7 @@ extern "C" {
     );
 }
 
-#[derive(Clone, Copy, PartialEq)]
+#[derive(Clone, Copy, Debug, PartialEq)]
 enum Entry {
     Layout,
     Text,
@@ -56,117 +71,680 @@ enum Entry {
 
 const ENTRIES: [Entry; 4] = [Entry::Layout, Entry::Text, Entry::Tree, Entry::Clear];
 
-/// What stands in the lent memory after a call.
-#[derive(PartialEq)]
-struct Left {
+/// What is lent besides the answer: words of five tables, bytes of the output; a row of each, and the refusal of one too short.
+const LENT: [&str; 6] = ["visited", "blocks", "links", "gaps", "scratch", "output"];
+const ROW: [usize; 6] = [1, 12, 2, 2, 2, 1];
+const SHORT: [u64; 6] = [10, 11, 12, 13, 13, 14];
+const GAPS: usize = 3;
+const SCRATCH: usize = 4;
+const OUT: usize = 5;
+
+type Lengths = [usize; 6];
+
+/// What a call leaves: the answer, and the words and bytes in use. All others are zero.
+struct Exit<'a> {
     answer: [u64; 9],
-    visited: Vec<u64>,
-    blocks: Vec<u64>,
-    links: Vec<u64>,
-    gaps: Vec<u64>,
-    scratch: Vec<u64>,
+    tables: [&'a [u64]; 5],
+    out: &'a [u8],
+}
+
+fn refusal(r: [u64; 4]) -> Exit<'static> {
+    Exit { answer: [r[0], r[1], r[2], r[3], 0, 0, 0, 0, 0], tables: [&[]; 5], out: &[] }
+}
+
+/// Lent memory, with one word or byte more than is lent.
+#[derive(Default)]
+struct Lent {
+    answer: [u64; 10],
+    tables: [Vec<u64>; 5],
     out: Vec<u8>,
 }
 
-/// One call, with tables that are long enough for any recording of this length and not a whole number of rows.
-fn call(entry: Entry, data: &[u8], bytes: usize) -> Left {
-    let ones = |n: usize| vec![u64::MAX; n];
-    let rows = data.len() / 8 + 8;
-    let (scratch, out) = match entry {
-        Entry::Layout => (0, 0),
-        Entry::Clear => (8 * rows + 1, 24 + 16 * rows),
-        _ => (0, bytes + 7),
-    };
-    let mut l = Left {
-        answer: [u64::MAX; 9],
-        visited: ones(rows),
-        blocks: ones(12 * rows + 5),
-        links: ones(4 * rows + 1),
-        gaps: ones(2 * rows + 1),
-        scratch: ones(scratch),
-        out: vec![u8::MAX; out],
-    };
-    macro_rules! lent {
-        ($f:ident $(, $t:ident)*) => {
-            $f(
-                data.as_ptr(), data.len(),
-                l.visited.as_mut_ptr(), l.visited.len(),
-                l.blocks.as_mut_ptr(), l.blocks.len(),
-                l.links.as_mut_ptr(), l.links.len(),
-                l.gaps.as_mut_ptr(), l.gaps.len(),
-                $(l.$t.as_mut_ptr(), l.$t.len(),)*
-                l.answer.as_mut_ptr(), l.answer.len(),
-            )
-        };
+impl Lent {
+    fn fill(&mut self, n: &Lengths) {
+        self.answer.fill(u64::MAX);
+        for (t, n) in self.tables.iter_mut().zip(n) {
+            t.clear();
+            t.resize(n + 1, u64::MAX);
+        }
+        self.out.clear();
+        self.out.resize(n[OUT] + 1, u8::MAX);
     }
-    unsafe {
-        match entry {
-            Entry::Layout => lent!(block_layout_c_layout),
-            Entry::Text => lent!(block_layout_c_text, out),
-            Entry::Tree => lent!(block_layout_c_tree, out),
-            Entry::Clear => lent!(block_layout_c_clear, scratch, out),
+
+    fn call(&mut self, entry: Entry, data: &[u8], n: &Lengths) {
+        self.fill(n);
+        let [visited, blocks, links, gaps, scratch] = &mut self.tables;
+        macro_rules! lent {
+            ($f:ident $(, $t:expr, $n:expr)*) => {
+                $f(
+                    data.as_ptr(), data.len(),
+                    visited.as_mut_ptr(), n[0],
+                    blocks.as_mut_ptr(), n[1],
+                    links.as_mut_ptr(), n[2],
+                    gaps.as_mut_ptr(), n[GAPS],
+                    $($t.as_mut_ptr(), $n,)*
+                    self.answer.as_mut_ptr(), 9,
+                )
+            };
+        }
+        unsafe {
+            match entry {
+                Entry::Layout => lent!(block_layout_c_layout),
+                Entry::Text => lent!(block_layout_c_text, self.out, n[OUT]),
+                Entry::Tree => lent!(block_layout_c_tree, self.out, n[OUT]),
+                Entry::Clear => lent!(block_layout_c_clear, scratch, n[SCRATCH], self.out, n[OUT]),
+            }
         }
     }
-    l
+
+    /// The first part that isn't as the exit has it.
+    fn differs(&self, exit: &Exit) -> Option<String> {
+        if self.answer[..9] != exit.answer || self.answer[9] != u64::MAX {
+            return Some(format!("answer {:?}, wanted {:?}", &self.answer[..9], exit.answer));
+        }
+        let table = (0..5).find(|k| !is(&self.tables[*k], exit.tables[*k], u64::MAX));
+        table.or((!is(&self.out, exit.out, u8::MAX)).then_some(OUT)).map(|k| LENT[k].to_string())
+    }
+
+    fn check(&mut self, entry: Entry, data: &[u8], n: &Lengths, exit: &Exit, how: &str) -> Result<(), String> {
+        self.call(entry, data, n);
+        match self.differs(exit) {
+            Some(what) => Err(format!("{entry:?}, {how}, lent {n:?}: {what}")),
+            None => Ok(()),
+        }
+    }
 }
 
-/// Whether t is w, and zeros behind it.
-fn is<T: PartialEq + Default>(t: &[T], w: &[T]) -> bool {
-    t.len() >= w.len() && t[..w.len()] == *w && t[w.len()..].iter().all(|x| *x == T::default())
+/// Whether t is w, then zeros, then the one that is not lent.
+fn is<T: PartialEq + Default>(t: &[T], w: &[T], last: T) -> bool {
+    let n = t.len() - 1;
+    n >= w.len() && t[..w.len()] == *w && t[w.len()..n].iter().all(|x| *x == T::default()) && t[n] == last
 }
 
-/// The oracle's words w: 0, counts, tables; or 1 and a refusal's four numbers. Of the clear list the bytes are its own.
-fn same(entry: Entry, l: &Left, w: &[u64], text: &[u8], tree: &[u8]) -> bool {
-    if w[0] == 1 {
-        return l.answer == [w[1], w[2], w[3], w[4], 0, 0, 0, 0, 0]
-            && [&l.visited, &l.blocks, &l.links, &l.gaps, &l.scratch].iter().all(|t| is(t, &[]))
-            && is(&l.out, &[]);
+/// An accepted recording as the oracle has it: rows, with and without tree marks, and texts; and the clear list drawn from the rows.
+struct Whole {
+    rows: Tables,
+    marked: Vec<[u64; 12]>,
+    text: String,
+    tree: String,
+    clear: Vec<u8>,
+    scratch_rows: usize,
+    /// Where refusals 10, 11 and 12 come if the table is a row short: the last block marked, listed, listed with links.
+    places: [u64; 3],
+}
+
+enum Want {
+    Accepted(Whole),
+    Refused([u64; 4]),
+    Unnumbered(String),
+}
+
+fn want(data: &[u8]) -> Want {
+    let answer = ask(data);
+    match answer {
+        Answer::Accepted(a) => Want::Accepted(whole(data, a)),
+        Answer::Error(_, Some(r)) | Answer::Panic(_, Some(r)) => Want::Refused(r),
+        Answer::Error(..) | Answer::Panic(..) => Want::Unnumbered(for_people(&answer)),
     }
-    let n: Vec<usize> = w[1..5].iter().map(|x| *x as usize).collect();
-    let a = 5 + n[0];
-    let b = a + 12 * n[1];
-    let c = b + 2 * n[2];
-    let mut blocks = w[a..b].to_vec();
-    if entry == Entry::Tree {
-        blocks.iter_mut().skip(11).step_by(12).for_each(|x| *x = 1);
-    }
-    let bytes = l.answer[8] as usize;
-    let out = match entry {
-        Entry::Layout => &[],
-        Entry::Text => text,
-        Entry::Tree => tree,
-        Entry::Clear => &l.out[..bytes],
+}
+
+fn whole(data: &[u8], a: Accepted) -> Whole {
+    let rows = tables(data, &a);
+    let mut marked = rows.blocks.clone();
+    marked.iter_mut().for_each(|b| b[11] = 1);
+    let reads = reads(data, &rows);
+    let last = |f: &dyn Fn(&[u64; 12]) -> bool| {
+        let row = |v: &u64| rows.blocks.binary_search_by_key(v, |b| b[0]).is_ok_and(|k| f(&rows.blocks[k]));
+        rows.visited.iter().copied().rfind(row).unwrap()
     };
-    l.answer == [0, 0, 0, 0, w[1], w[2], w[3], w[4], out.len() as u64]
-        && is(&l.visited, &w[5..a]) && is(&l.blocks, &blocks) && is(&l.links, &w[b..c]) && is(&l.gaps, &w[c..])
-        && is(&l.scratch, &[]) && is(&l.out, out)
+    let places = [*rows.visited.last().unwrap(), last(&|_| true), last(&|b| b[7] > 0)];
+    let clear = clear_list(data, &rows.gaps, &reads);
+    Whole { places, clear, scratch_rows: reads.len(), marked, text: a.text, tree: a.tree, rows }
+}
+
+/// The bytes of document 01's "Read, per listed block".
+fn own_bytes(data: &[u8], at: u64, kind: u64) -> u64 {
+    let (block_len, links_nr) = (u64_at(data, at + 8), u64_at(data, at + 16));
+    match kind {
+        1 | 3 => 64,
+        2 => 104,
+        4 => 24 + 8 * links_nr + 32,
+        5 => 160,
+        6 => 24 + 8 * links_nr + 3,
+        7 | 8 => block_len.max(24),
+        11 => {
+            let behind = (at + 24 + 8 * links_nr) as usize;
+            let fragments = u32::from_le_bytes(data[behind + 4..behind + 8].try_into().unwrap()) as u64;
+            32 + 8 * links_nr + if data[behind] & 1 == 1 { 8 } else { 8 * fragments }
+        }
+        _ => 24,
+    }
+}
+
+/// The range read of a channel's name, if any.
+fn name_read(data: &[u8], target: u64) -> Option<[u64; 2]> {
+    let left = (data.len() as u64).checked_sub(target)?;
+    if target == 0 || left < 24 || mark_at(data, target) != mark_of("##TX") {
+        return None;
+    }
+    let n = u64_at(data, target + 8).max(24);
+    Some([target, target + if n <= left { n } else { 24 }])
+}
+
+/// Document 01's read ranges: one for each listed block, channel name read, and nonzero link with four bytes inside. So many rows the
+/// scratch table takes.
+fn reads(data: &[u8], rows: &Tables) -> Vec<[u64; 2]> {
+    let mut reads = Vec::new();
+    for b in &rows.blocks {
+        reads.push([b[0], b[0] + own_bytes(data, b[0], b[4])]);
+        if b[4] == 5 {
+            reads.extend(name_read(data, rows.links[b[6] as usize + 2][0]));
+        }
+    }
+    let targets = rows.links.iter().map(|l| l[0]);
+    let inside = targets.filter(|t| *t != 0 && *t <= data.len() as u64 - 4);
+    reads.extend(inside.map(|t| [t, t + 4]));
+    reads
+}
+
+/// The CLR bytes: the runs of bytes that lie in a gap and aren't read.
+fn clear_list(data: &[u8], gaps: &[[u64; 2]], reads: &[[u64; 2]]) -> Vec<u8> {
+    let mut clear = vec![false; data.len()];
+    gaps.iter().for_each(|g| clear[g[0] as usize..g[1] as usize].fill(true));
+    reads.iter().for_each(|r| clear[r[0] as usize..r[1] as usize].fill(false));
+    let (mut ranges, mut at) = (Vec::new(), 0);
+    for run in clear.chunk_by(|a, b| a == b) {
+        let end = at + run.len() as u64;
+        if run[0] {
+            ranges.extend([at, end]);
+        }
+        at = end;
+    }
+    let mut clr = b"CLR\x01\0\0\0\0".to_vec();
+    clr.extend(bytes_of(&[data.len() as u64, ranges.len() as u64 / 2]));
+    clr.extend(bytes_of(&ranges));
+    clr
 }
 
 /// The recording with the ranges of the CLR bytes zeroed.
 fn blanked(data: &[u8], clr: &[u8]) -> Vec<u8> {
-    let word = |i: usize| u64::from_le_bytes(clr[i..i + 8].try_into().unwrap()) as usize;
-    assert!(clr[..8] == *b"CLR\x01\0\0\0\0" && word(8) == data.len());
     let mut d = data.to_vec();
-    for k in 0..word(16) {
-        d[word(24 + 16 * k)..word(32 + 16 * k)].fill(0);
+    for range in clr[24..].chunks(16) {
+        d[u64_at(range, 0) as usize..u64_at(range, 8) as usize].fill(0);
     }
     d
 }
 
-fn agrees(data: &[u8], w: &[u64], text: &[u8], tree: &[u8]) -> bool {
-    let bytes = text.len().max(tree.len());
-    let lefts: Vec<Left> = ENTRIES.iter().map(|e| call(*e, data, bytes)).collect();
-    if !ENTRIES.iter().zip(&lefts).all(|(e, l)| same(*e, l, w, text, tree)) {
-        return false;
+impl Whole {
+    fn exit(&self, entry: Entry) -> Exit<'_> {
+        let t = &self.rows;
+        let (blocks, out): (&[[u64; 12]], &[u8]) = match entry {
+            Entry::Layout => (&t.blocks, b""),
+            Entry::Text => (&t.blocks, self.text.as_bytes()),
+            Entry::Tree => (&self.marked, self.tree.as_bytes()),
+            Entry::Clear => (&t.blocks, &self.clear),
+        };
+        let counts = [t.visited.len(), t.blocks.len(), t.links.len(), t.gaps.len(), out.len()].map(|n| n as u64);
+        let mut answer = [0; 9];
+        answer[4..].copy_from_slice(&counts);
+        Exit { answer, tables: [&t.visited, blocks.as_flattened(), t.links.as_flattened(), t.gaps.as_flattened(), &[]], out }
     }
-    if w[0] == 1 {
-        return true;
+
+    fn exact(&self, entry: Entry) -> Lengths {
+        let exit = self.exit(entry);
+        let [v, b, l, g, _] = exit.tables.map(|t| t.len());
+        [v, b, l, g, if entry == Entry::Clear { 2 * self.scratch_rows } else { 0 }, exit.out.len()]
     }
-    let d = blanked(data, &lefts[3].out);
-    ENTRIES.iter().zip(&lefts).all(|(e, l)| call(*e, &d, bytes) == *l)
+
+    /// The refusal if the k-th of the lent is a word or byte shorter than just enough.
+    fn short(&self, k: usize, exact: &Lengths) -> [u64; 4] {
+        let rows = (exact[k] / ROW[k]) as u64;
+        if k < GAPS { [SHORT[k], self.places[k], rows - 1, 0] } else { [SHORT[k], 0, rows - 1, rows] }
+    }
 }
 
-fn compare() {
+/// Where a mark may stand.
+fn marks(data: &[u8]) -> impl Iterator<Item = u64> + '_ {
+    (0..data.len().saturating_sub(23)).filter(|at| data[*at..].starts_with(b"##")).map(|at| at as u64)
+}
+
+/// The most links that a block here can show.
+fn links_at(data: &[u8], at: u64) -> u64 {
+    match &data[at as usize..][..4] {
+        b"##HD" => 6,
+        b"##DG" => 4,
+        b"##CG" => 7,
+        b"##CN" => 8,
+        b"##SI" => 3,
+        b"##DL" => Some(u64_at(data, at + 16)).filter(|n| *n <= (data.len() as u64 - at) / 8).unwrap_or(0),
+        _ => 0,
+    }
+}
+
+/// Lengths that suffice for any walk through the recording and aren't whole rows. Each row is shown once, and what is visited besides
+/// ID and HD is a shown link's target.
+fn plenty(entry: Entry, data: &[u8], out: usize) -> Lengths {
+    let links = marks(data).map(|at| links_at(data, at)).sum::<u64>() as usize;
+    let rows = links + 2;
+    let scratch = if entry == Entry::Clear { 2 * (rows + 2 * links) + 1 } else { 0 };
+    [rows, 12 * rows + 5, 2 * links + 1, 2 * rows + 3, scratch, if entry == Entry::Layout { 0 } else { out + 7 }]
+}
+
+/// Whether the oracle has the same answer for the blanked recording.
+fn same_blanked(blank: &[u8], w: &Whole) -> bool {
+    let Want::Accepted(b) = want(blank) else { return false };
+    let (r, s) = (&b.rows, &w.rows);
+    b.text == w.text && b.tree == w.tree && b.clear == w.clear
+        && r.visited == s.visited && r.blocks == s.blocks && r.links == s.links && r.gaps == s.gaps
+}
+
+/// Holds the library on an accepted recording; with every length varied, or the scratch table's only.
+fn hold_accepted(lent: &mut Lent, data: &[u8], w: &Whole, every: bool) -> Result<(), String> {
+    let blank = blanked(data, &w.clear);
+    if blank != data && !same_blanked(&blank, w) {
+        return Err("the oracle's answer changes by blanking".to_string());
+    }
+    for entry in ENTRIES {
+        let (exit, exact) = (w.exit(entry), w.exact(entry));
+        let plenty = plenty(entry, data, exit.out.len());
+        lent.check(entry, data, &plenty, &exit, "plenty")?;
+        if blank != data {
+            lent.check(entry, &blank, &plenty, &exit, "blanked")?;
+        }
+        if every || entry == Entry::Clear {
+            lent.check(entry, data, &exact, &exit, "exact")?;
+        }
+        for k in (0..6).filter(|k| exact[*k] > 0 && (every || *k == SCRATCH)) {
+            let mut n = exact;
+            n[k] -= 1;
+            lent.check(entry, data, &n, &refusal(w.short(k, &exact)), LENT[k])?;
+        }
+    }
+    Ok(())
+}
+
+#[derive(Default)]
+struct Tally {
+    accepted: u64,
+    cleared: u64,
+    varied: u64,
+    refused: [u64; 10],
+    unnumbered: u64,
+    differ: u64,
+}
+
+impl Tally {
+    fn held(&mut self, lent: &mut Lent, name: &dyn std::fmt::Display, data: &[u8], every: bool) -> Result<(), String> {
+        match want(data) {
+            Want::Accepted(w) => {
+                self.accepted += 1;
+                self.cleared += (w.clear.len() > 24) as u64;
+                self.varied += every as u64;
+                hold_accepted(lent, data, &w, every)
+            }
+            Want::Refused(r) => {
+                self.refused[r[0] as usize] += 1;
+                ENTRIES.iter().try_for_each(|e| lent.check(*e, data, &plenty(*e, data, 24), &refusal(r), "refused"))
+            }
+            Want::Unnumbered(s) => {
+                self.unnumbered += 1;
+                println!("no number: {name}: {}", s.trim_end());
+                Ok(())
+            }
+        }
+    }
+
+    /// Holds library and oracle on one recording, and prints it if they differ. A stop, as by the oracle's assertions, is a difference.
+    fn hold(&mut self, lent: &mut Lent, name: &dyn std::fmt::Display, data: &[u8], every: bool) {
+        let held = catch_unwind(AssertUnwindSafe(|| self.held(lent, name, data, every)));
+        let held = held.unwrap_or_else(|_| {
+            let p = PANIC.with(|p| p.borrow_mut().take()).expect("a caught panic has a record");
+            Err(format!("stopped in {} line {}: {}", p.file, p.line, p.message))
+        });
+        if let Err(what) = held {
+            self.differ += 1;
+            println!("differs: {name}: {what}");
+        }
+    }
+
+    fn print(&self) {
+        let Tally { accepted, cleared, varied, unnumbered, differ, refused } = self;
+        let sum: u64 = refused.iter().sum();
+        let each: Vec<String> = (1..10).map(|k| format!("{k}: {}", refused[k])).collect();
+        println!("{accepted} accepted ({cleared} with clear ranges, {varied} with every length varied),");
+        println!("{sum} refused ({}), {unnumbered} without a number; {differ} differ", each.join(", "));
+    }
+}
+
+/// Seeded numbers: splitmix64.
+struct Rng(u64);
+
+impl Rng {
+    fn next(&mut self) -> u64 {
+        self.0 = self.0.wrapping_add(0x9e3779b97f4a7c15);
+        let z = (self.0 ^ (self.0 >> 30)).wrapping_mul(0xbf58476d1ce4e5b9);
+        let z = (z ^ (z >> 27)).wrapping_mul(0x94d049bb133111eb);
+        z ^ (z >> 31)
+    }
+
+    fn below(&mut self, n: u64) -> u64 {
+        self.next() % n
+    }
+
+    fn pick<'a, T>(&mut self, xs: &'a [T]) -> &'a T {
+        &xs[self.below(xs.len() as u64) as usize]
+    }
+
+    /// x, at most d more or less.
+    fn near(&mut self, x: u64, d: u64) -> u64 {
+        x.wrapping_sub(d).wrapping_add(self.below(2 * d + 1))
+    }
+}
+
+const LARGEST: usize = 8192;
+
+/// A place in a recording: its position and width, and the block that it belongs to.
+#[derive(Clone, Copy)]
+struct Field {
+    at: u64,
+    width: usize,
+    block: u64,
+}
+
+/// A recording to be damaged: where its blocks (but the ID) start and end, their link fields, and the fields behind those.
+struct Base {
+    name: String,
+    data: Vec<u8>,
+    accepted: bool,
+    blocks: Vec<[u64; 2]>,
+    links: Vec<u64>,
+    fields: Vec<Field>,
+}
+
+/// The fields behind a block's links that change the walk or are shown: place behind the links, width. Of texts the first bytes.
+const BEHIND: [(&[u8; 4], &[(u64, usize)]); 8] = [
+    (b"##HD", &[(0, 8), (8, 2), (12, 1), (13, 1), (14, 1)]),
+    (b"##DG", &[(0, 1)]),
+    (b"##CG", &[(0, 8), (8, 8), (16, 2), (24, 4), (28, 4)]),
+    (b"##CN", &[(0, 1), (1, 1), (2, 1), (3, 1), (4, 4), (8, 4), (12, 4), (16, 4), (20, 1)]),
+    (b"##SI", &[(0, 1), (1, 1), (2, 1)]),
+    (b"##DL", &[(0, 1), (4, 4), (8, 8)]),
+    (b"##TX", &[(0, 1), (1, 2), (3, 4)]),
+    (b"##MD", &[(0, 1), (1, 2), (3, 4)]),
+];
+
+/// The ID's fields: file mark, the version's bytes, program, number, unfinalized flags.
+const ID: [(u64, usize); 14] =
+    [(0, 8), (8, 1), (9, 1), (10, 1), (11, 1), (12, 1), (13, 1), (14, 1), (15, 1), (16, 4), (20, 4), (28, 2), (60, 2), (62, 2)];
+
+const MARKS: [&[u8; 4]; 18] = [
+    b"##HD", b"##DG", b"##CG", b"##CN", b"##SI", b"##TX", b"##MD", b"##DT", b"##DV", b"##RD", b"##RV", b"##SD", b"##DL", b"##CC", b"##FH",
+    b"##ZZ", b"#\xff\xfe#", b"\0\0\0\0",
+];
+
+impl Base {
+    fn new(name: &str, data: Vec<u8>) -> Base {
+        let answer = want(&data);
+        let blocks: Vec<[u64; 3]> = match &answer {
+            Want::Accepted(w) => w.rows.blocks.iter().filter(|b| b[4] != 1).map(|b| [b[0], b[1], b[7]]).collect(),
+            _ => marks(&data).map(|at| [at, at.saturating_add(u64_at(&data, at + 8)), links_at(&data, at)]).collect(),
+        };
+        let links = blocks.iter().flat_map(|b| (0..b[2]).map(|i| b[0] + 24 + 8 * i)).filter(|at| at + 8 <= data.len() as u64).collect();
+        let fields = blocks.iter().flat_map(|b| behind(&data, b[0])).collect();
+        let accepted = matches!(answer, Want::Accepted(_));
+        Base { name: name.to_string(), accepted, blocks: blocks.iter().map(|b| [b[0], b[1]]).collect(), links, fields, data }
+    }
+}
+
+fn behind(data: &[u8], block: u64) -> Vec<Field> {
+    let mark = &data[block as usize..][..4];
+    let places = BEHIND.iter().find(|(m, _)| *m == mark).map_or(&[][..], |(_, places)| places);
+    let links = u64_at(data, block + 16).min(data.len() as u64 / 8);
+    places.iter().map(|(at, width)| Field { at: block + 24 + 8 * links + at, width: *width, block }).collect()
+}
+
+/// Writes those of the bytes that lie inside.
+fn put(data: &mut [u8], at: u64, bytes: &[u8]) {
+    let at = data.len().min(at as usize);
+    data[at..].iter_mut().zip(bytes).for_each(|(d, b)| *d = *b);
+}
+
+/// A number for a field: small, near what stands there, at the edges of the file, of 64 bits and of eight times it, or any.
+fn value(rng: &mut Rng, data: &[u8], f: Field) -> u64 {
+    let mut now = [0; 8];
+    let from = data.len().min(f.at as usize);
+    let to = data.len().min(from + f.width);
+    now[..to - from].copy_from_slice(&data[from..to]);
+    let (now, n) = (u64::from_le_bytes(now), data.len() as u64);
+    match rng.below(16) {
+        0 => 0,
+        1 => 1,
+        2 => 23 + rng.below(3),
+        3 | 4 => rng.near(now, 1),
+        5 => rng.near(now, 8),
+        6 => rng.near(n, 8),
+        7 => rng.near(n.wrapping_sub(f.block), 8),
+        8 => rng.near(0u64.wrapping_sub(f.block), 8),
+        9 => rng.near(1 << 32, 1),
+        10 => rng.near(1 << 61, 8),
+        11 => 0u64.wrapping_sub(1 + rng.below(32)),
+        12 => 1 << rng.below(64),
+        13 => now ^ (1 << rng.below(8 * f.width as u64)),
+        14 => rng.below(256),
+        _ => rng.next(),
+    }
+}
+
+/// A link's target: none, a block, close to one, anywhere, close to the file's end or that of 64 bits.
+fn target(rng: &mut Rng, base: &Base, data: &[u8]) -> u64 {
+    let n = data.len() as u64;
+    match rng.below(10) {
+        0 => 0,
+        1..=3 => rng.pick(&base.blocks)[0],
+        4 => {
+            let at = rng.pick(&base.blocks)[0];
+            rng.near(at, 24)
+        }
+        5 => rng.below(n + 1),
+        6 => n.wrapping_sub(*rng.pick(&[1, 3, 4, 5, 23, 24, 25, 64, 104, 160])),
+        7 => n.wrapping_sub(1 + rng.below(32)),
+        8 => n + rng.below(32),
+        _ => 0u64.wrapping_sub(1 + rng.below(32)),
+    }
+}
+
+/// Draws and does a damage of one kind; false if there's no place for it.
+type Damage = fn(&mut Rng, &Base, &mut Vec<u8>) -> bool;
+
+/// Each kind with its share. Few cuts and marks: most recordings are refused after them.
+const DAMAGES: [(&str, u64, Damage); 10] = [
+    ("byte", 5, byte),
+    ("identification", 1, identification),
+    ("mark", 2, mark),
+    ("block_len", 3, |rng, base, data| header(rng, base, data, 8)),
+    ("links_nr", 2, |rng, base, data| header(rng, base, data, 16)),
+    ("field", 4, field),
+    ("link", 6, link),
+    ("copy", 2, copy),
+    ("appended", 1, appended),
+    ("cut", 1, cut),
+];
+
+fn byte(rng: &mut Rng, _: &Base, data: &mut Vec<u8>) -> bool {
+    if data.is_empty() {
+        return false;
+    }
+    let at = rng.below(data.len() as u64) as usize;
+    data[at] = match rng.below(5) {
+        0 => 0,
+        1 => u8::MAX,
+        2 => data[at] ^ (1 << rng.below(8)),
+        3 => *rng.pick(b"\n 0.A\x7f\x80\x9f\xa0\xbf\xc2\xe0\xe2\xed\xf0\xf4"),
+        _ => rng.next() as u8,
+    };
+    true
+}
+
+fn write_value(rng: &mut Rng, data: &mut Vec<u8>, f: Field) -> bool {
+    let v = value(rng, data, f);
+    put(data, f.at, &v.to_le_bytes()[..f.width]);
+    true
+}
+
+fn identification(rng: &mut Rng, _: &Base, data: &mut Vec<u8>) -> bool {
+    let (at, width) = *rng.pick(&ID);
+    if (8..16).contains(&at) && rng.below(4) > 0 {
+        put(data, at, &[*rng.pick(b"0123456789.+ \0")]);
+        return true;
+    }
+    write_value(rng, data, Field { at, width, block: 0 })
+}
+
+fn mark(rng: &mut Rng, base: &Base, data: &mut Vec<u8>) -> bool {
+    if base.blocks.is_empty() {
+        return false;
+    }
+    let at = rng.pick(&base.blocks)[0];
+    match rng.below(3) {
+        0 => put(data, at + rng.below(4), &[rng.next() as u8]),
+        _ => put(data, at, *rng.pick(&MARKS)),
+    }
+    true
+}
+
+/// The field at this place of a block's header.
+fn header(rng: &mut Rng, base: &Base, data: &mut Vec<u8>, place: u64) -> bool {
+    if base.blocks.is_empty() {
+        return false;
+    }
+    let block = rng.pick(&base.blocks)[0];
+    write_value(rng, data, Field { at: block + place, width: 8, block })
+}
+
+fn field(rng: &mut Rng, base: &Base, data: &mut Vec<u8>) -> bool {
+    if base.fields.is_empty() {
+        return false;
+    }
+    let f = *rng.pick(&base.fields);
+    write_value(rng, data, f)
+}
+
+fn link(rng: &mut Rng, base: &Base, data: &mut Vec<u8>) -> bool {
+    if base.links.is_empty() {
+        return false;
+    }
+    let at = *rng.pick(&base.links);
+    let to = target(rng, base, data);
+    put(data, at, &to.to_le_bytes());
+    true
+}
+
+/// What a link leads to, copied over other bytes, and the link leads there: so blocks overlap that the walk enters.
+fn copy(rng: &mut Rng, base: &Base, data: &mut Vec<u8>) -> bool {
+    if base.links.is_empty() {
+        return false;
+    }
+    let link = *rng.pick(&base.links);
+    let from = u64_at(&base.data, link);
+    if !base.blocks.iter().any(|b| b[0] == from) {
+        return false;
+    }
+    let end = base.data.len().min(from as usize + 24 + 8 * rng.below(20) as usize);
+    let to = rng.below(data.len() as u64 + 1);
+    put(data, to, &base.data[from as usize..end]);
+    put(data, link, &to.to_le_bytes());
+    true
+}
+
+fn appended(rng: &mut Rng, _: &Base, data: &mut Vec<u8>) -> bool {
+    let zeros = rng.below(2) == 0;
+    let n = 1 + rng.below(64);
+    data.extend((0..n).map(|_| if zeros { 0 } else { rng.next() as u8 }));
+    true
+}
+
+/// Cuts anywhere, close to the end, or at a block's start or end or behind its header, a byte more or less.
+fn cut(rng: &mut Rng, base: &Base, data: &mut Vec<u8>) -> bool {
+    let n = data.len() as u64;
+    let block = if base.blocks.is_empty() { [0, 64] } else { *rng.pick(&base.blocks) };
+    let at = match rng.below(5) {
+        0 => rng.below(n + 1),
+        1 => n.saturating_sub(rng.below(32)),
+        2 => block[0],
+        3 => block[1],
+        _ => block[0] + 24,
+    };
+    data.truncate(rng.near(at, 1).min(n) as usize);
+    true
+}
+
+/// One to four damages to the base, counted by kind; drawn again while nothing has changed.
+fn damaged(rng: &mut Rng, base: &Base, counts: &mut [u64; DAMAGES.len()]) -> Vec<u8> {
+    let all: u64 = DAMAGES.iter().map(|d| d.1).sum();
+    let mut data = base.data.clone();
+    while data == base.data {
+        let mut left = *rng.pick(&[1, 1, 1, 2, 2, 3, 4]);
+        while left > 0 {
+            let (mut k, mut at) = (0, rng.below(all));
+            while at >= DAMAGES[k].1 {
+                at -= DAMAGES[k].1;
+                k += 1;
+            }
+            if DAMAGES[k].2(rng, base, &mut data) {
+                counts[k] += 1;
+                left -= 1;
+            }
+        }
+    }
+    data
+}
+
+/// The recordings that the file lists, read one after the other.
+fn listed(names: &str) -> impl Iterator<Item = (String, Vec<u8>)> {
+    let names = std::fs::read_to_string(names).expect("a file of names");
+    let names: Vec<String> = names.lines().map(String::from).collect();
+    names.into_iter().map(|name| {
+        let data = std::fs::read(&name).expect("a recording");
+        (name, data)
+    })
+}
+
+fn plain_run(names: &str) -> bool {
+    let (mut lent, mut tally) = (Lent::default(), Tally::default());
+    for (name, data) in listed(names) {
+        tally.hold(&mut lent, &name, &data, true);
+    }
+    tally.print();
+    true
+}
+
+fn damage_run(names: &str, seed: u64, count: u64) -> bool {
+    let small = listed(names).filter(|(_, data)| data.len() <= LARGEST);
+    let (accepted, refused): (Vec<Base>, Vec<Base>) = small.map(|(name, data)| Base::new(&name, data)).partition(|b| b.accepted);
+    assert!(accepted.len() + refused.len() > 0, "no recording of at most {LARGEST} bytes");
+    let (mut lent, mut tally, mut counts) = (Lent::default(), Tally::default(), [0; DAMAGES.len()]);
+    for index in 0..count {
+        // A generator for each, so that a recording doesn't depend on those before it.
+        let mut rng = Rng(Rng(seed).next() ^ Rng(index).next());
+        // Seven in eight from accepted ones: damage to a refused one rarely shows anything new.
+        let from = if accepted.is_empty() || !refused.is_empty() && rng.below(8) == 0 { &refused } else { &accepted };
+        let base = rng.pick(from);
+        let data = damaged(&mut rng, base, &mut counts);
+        let found = tally.differ + tally.unnumbered;
+        tally.hold(&mut lent, &format_args!("seed {seed} index {index} from {}", base.name), &data, index % 8 == 0);
+        if tally.differ + tally.unnumbered > found {
+            let path = std::env::current_exe().unwrap().with_file_name(format!("differs-{seed}-{index}.mf4"));
+            std::fs::write(path, &data).unwrap();
+        }
+    }
+    println!("seed {seed}: {count} damaged, from {} accepted and {} refused recordings", accepted.len(), refused.len());
+    tally.print();
+    let each: Vec<String> = DAMAGES.iter().zip(counts).map(|(d, n)| format!("{} {n}", d.0)).collect();
+    println!("damages: {}", each.join(", "));
+    tally.differ == 0
+}
+
+fn compare() -> bool {
     std::panic::set_hook(Box::new(|info| {
         let message = match info.payload().downcast_ref::<&str>() {
             Some(s) => s.to_string(),
@@ -175,34 +753,24 @@ fn compare() {
         let l = info.location().unwrap();
         PANIC.with(|p| *p.borrow_mut() = Some(Panic { message, file: l.file().to_string(), line: l.line() }));
     }));
-    let names = std::env::args().nth(1).expect("a file of names");
-    let (mut accepted, mut refused, mut unnumbered, mut differ) = (0, 0, 0, 0);
-    for name in std::fs::read_to_string(names).unwrap().lines() {
-        let data = std::fs::read(name).unwrap();
-        let answer = ask(&data);
-        let w = rows_words(&data, &answer);
-        let (text, tree): (&[u8], &[u8]) = match &answer {
-            Answer::Accepted(a) => (a.text.as_bytes(), a.tree.as_bytes()),
-            _ => (b"", b""),
-        };
-        match w[0] {
-            0 => accepted += 1,
-            1 => refused += 1,
-            _ => {
-                unnumbered += 1;
-                println!("no number: {name}");
-                continue;
-            }
-        }
-        if !agrees(&data, &w, text, tree) {
-            differ += 1;
-            println!("differs: {name}");
-        }
+    let args: Vec<String> = std::env::args().skip(1).collect();
+    let args: Vec<&str> = args.iter().map(String::as_str).collect();
+    match args[..] {
+        [names] => plain_run(names),
+        [names, "--damage", seed, count] => damage_run(names, seed.parse().expect("a seed"), count.parse().expect("a count")),
+        _ => panic!("compare NAMES [--damage SEED COUNT]"),
     }
-    println!("{accepted} accepted, {refused} refused, {unnumbered} without a number; {differ} differ");
 }
 
 fn main() {
-    let t = std::thread::Builder::new().stack_size(1 << 30).spawn(compare).unwrap();
-    t.join().unwrap();
+    // The Rust recurses over data lists and trees: a large stack. What stops outside a comparison is told here, since the hook is silent.
+    let run = || catch_unwind(compare).map_err(|_| PANIC.with(|p| p.borrow_mut().take()));
+    let t = std::thread::Builder::new().stack_size(1 << 30).spawn(run).unwrap();
+    match t.join().unwrap() {
+        Ok(agreed) => std::process::exit(!agreed as i32),
+        Err(p) => {
+            eprintln!("compare: {}", p.map_or(String::new(), |p| p.message));
+            std::process::exit(2);
+        }
+    }
 }
