@@ -1,223 +1,21 @@
--- Document 01's rows worked by hand, proved by computation: first the starred ones, in its order, then the others that speak of
--- the definition, then one row for each of its wrong turns that no starred row rules out.
+-- Further rows, proved by computation: document 01's rows worked by hand that have no star (WorkedRows.antt has the starred ones),
+-- limits, one row for each of its wrong turns that no starred row rules out, and rows where it is silent and the Rust decides.
 use mathlib.Core.Path.{_≡_, refl}
 use mathlib.Core.List.{List, [], _∷_, _++_}
-use Prim.Native.Nat.{ℕ, _+_}
+use Prim.Native.Nat.{ℕ}
 use lib.ListN.{replicate}
-use Rattle.utf8.specs.Utf8.{lossy}
-use Rattle.fmt.specs.Digits.{i16-of, dec-signed}
 use Rattle.fmt.specs.Text.{ascii}
-use Rattle.mdf4.specs.Bytes.{num}
-use Rattle.mdf4.specs.Act.{ok, err, refusal, stopped, marked, DL, CG, TX, DT, Row}
-use Rattle.mdf4.specs.Kinds.{read-block, mark-of, make-link, no-records, cg-records}
+use Rattle.mdf4.specs.Act.{ok, err, refusal, stopped, marked, DL, Row}
+use Rattle.mdf4.specs.Kinds.{make-link, no-records, cg-records}
 use Rattle.mdf4.specs.Version.{version}
 use Rattle.mdf4.specs.Walk.{start, walk-data-region}
-use Rattle.mdf4.specs.Layout.{compute-gaps}
+use Rattle.mdf4.specs.Layout.{Layout}
 use Rattle.mdf4.specs.Clear.{le-bytes}
-use Rattle.mdf4.specs.Describe.{name-text, tx-text, describe-of, extra-of}
-use Rattle.mdf4.specs.Tree.{root, render-tree-node}
-use Rattle.mdf4.specs.Answers.{Lent, Counts, layout-exit, to-text-exit, to-tree-exit, clear-list-exit}
+use Rattle.mdf4.specs.Tree.{Edge, render-tree-node}
+use Rattle.mdf4.specs.Answers.{layout-exit, to-text-exit, clear-list-exit}
 use Rattle.mdf4.proofs.Computed.{computed}
-
--- words of the visited, block, link, gap and scratch tables, bytes of the output
-abbrev pub lent : ℕ → ℕ → ℕ → ℕ → ℕ → ℕ → Lent
-lent v b l g s o = record { visited = v; blocks = b; links = l; gaps = g; scratch = s; out = o }
-
-abbrev pub counts : ℕ → ℕ → ℕ → ℕ → ℕ → Counts
-counts v b l g o = record { visited = v; blocks = b; links = l; gaps = g; bytes = o }
-
--- a block: mark, block_len, links_nr, and what stands behind the header
-abbrev pub block : List ℕ → ℕ → ℕ → List ℕ → List ℕ
-block m len links body = m ++ replicate 4 0 ++ le-bytes 8 len ++ le-bytes 8 links ++ body
-
--- * versions
-pub version-4-1 : version (ascii "4.1     ") ≡ err (refusal 4 8 401 0)
-unfolding computed
-version-4-1 = refl
-
-pub version-4-10 : version (ascii "4.10    ") ≡ ok 410
-unfolding computed
-version-4-10 = refl
-
-pub version-0-410 : version (ascii "0.410   ") ≡ ok 410
-unfolding computed
-version-0-410 = refl
-
-pub version-plus-4-10 : version (ascii "+4.10   ") ≡ ok 410
-unfolding computed
-version-plus-4-10 = refl
-
-pub version-4-dot : version (ascii "4.      ") ≡ err (refusal 3 8 3 0)
-unfolding computed
-version-4-dot = refl
-
-pub version-655-35 : version (ascii "655.35  ") ≡ ok 65535
-unfolding computed
-version-655-35 = refl
-
-pub version-655-36 : version (ascii "655.36  ") ≡ err (refusal 7 8 655 36)
-unfolding computed
-version-655-36 = refl
-
--- * gaps: cut at the empty block at 200
-pub gaps-cut : compute-gaps 260 0 ((0, 64) ∷ (64, 168) ∷ (200, 200) ∷ (220, 240) ∷ []) ≡ (168, 200) ∷ (200, 220) ∷ (240, 260) ∷ []
-unfolding computed
-gaps-cut = refl
-
--- * a channel group with 6 links: block_len 103 refused, 104 not; 5 links refused
-pub cg-103 : read-block CG (block (ascii "##CG") 103 6 (replicate 80 0)) 0 ≡ err (refusal 6 0 6 103)
-unfolding computed
-cg-103 = refl
-
-pub cg-104 : read-block CG (block (ascii "##CG") 104 6 (replicate 80 0)) 0 ≡ ok (block (ascii "##CG") 104 6 (replicate 80 0))
-unfolding computed
-cg-104 = refl
-
-pub cg-5-links : read-block CG (block (ascii "##CG") 104 5 (replicate 80 0)) 0 ≡ err (refusal 6 0 5 104)
-unfolding computed
-cg-5-links = refl
-
--- * replacement by maximal subparts
-pub one-replacement : lossy (0x61 ∷ 0xe2 ∷ 0x82 ∷ 0x62 ∷ []) ≡ 0x61 ∷ 0xef ∷ 0xbf ∷ 0xbd ∷ 0x62 ∷ []
-unfolding computed
-one-replacement = refl
-
-pub three-replacements : lossy (0xf0 ∷ 0x80 ∷ 0x80 ∷ []) ≡ 0xef ∷ 0xbf ∷ 0xbd ∷ 0xef ∷ 0xbf ∷ 0xbd ∷ 0xef ∷ 0xbf ∷ 0xbd ∷ []
-unfolding computed
-three-replacements = refl
-
--- * records: a data block of the given block_len, with records of 30 bytes
-unfoldable pub data-row : ℕ → Row
-data-row n = record {
-  off = 0;
-  end = n;
-  size = n;
-  mark = mark-of "##DT";
-  kind = DT;
-  index = 0;
-  first-link = 0;
-  link-count = 0;
-  record-size = 30;
-  invalidation-bytes = 0;
-  record-id-len = 0;
-}
-
-pub records-124 : extra-of DT (data-row 124) []
-    ≡ replicate 44 32 ++ ascii "payload=100 bytes, header=24 bytes, record layout = 30B (record_id=0B + data + invalidation=0B), records=3, trailing=10B\n"
-unfolding computed data-row
-records-124 = refl
-
-pub payload-10 : describe-of DT (data-row 10) [] [] ≡ ascii "Data block (0 payload bytes)"
-unfolding computed data-row
-payload-10 = refl
-
--- * NULs: a name is what stands between them, a text what stands before the first
-pub name-nuls : name-text (block (ascii "##TX") 29 0 (0x00 ∷ 0x41 ∷ 0x00 ∷ 0x42 ∷ 0x00 ∷ [])) ≡ 0x41 ∷ 0x00 ∷ 0x42 ∷ []
-unfolding computed
-name-nuls = refl
-
-pub text-nuls : tx-text (block (ascii "##TX") 29 0 (0x00 ∷ 0x41 ∷ 0x00 ∷ 0x42 ∷ 0x00 ∷ [])) ≡ []
-unfolding computed
-text-nuls = refl
-
--- * previews
-pub preview-48 : describe-of TX (data-row 72) (block (ascii "##TX") 72 0 (replicate 48 97)) []
-    ≡ ascii "Text: \"" ++ replicate 48 97 ++ ascii "\" (48 chars)"
-unfolding computed data-row
-preview-48 = refl
-
-pub preview-49 : describe-of TX (data-row 73) (block (ascii "##TX") 73 0 (replicate 49 97)) []
-    ≡ ascii "Text: \"" ++ replicate 48 97 ++ ascii "...\" (49 chars)"
-unfolding computed data-row
-preview-49 = refl
-
--- * the time zone
-pub zone : dec-signed (i16-of (num (0x00 ∷ 0x80 ∷ []) 0 2)) ≡ ascii "-32768"
-unfolding computed
-zone = refl
-
--- * L
-unfoldable pub identification : List ℕ
-identification = ascii "MDF     4.10    console1" ++ replicate 4 0 ++ le-bytes 2 410 ++ replicate 34 0
-
-unfoldable pub header : List ℕ → List ℕ
-header links = block (ascii "##HD") 104 6 (links ++ replicate 32 0)
-
-unfoldable pub L : List ℕ
-L = identification ++ header (replicate 48 0)
-
-unfoldable pub L-rows : ℕ → List ℕ
-L-rows tree-mark =
-    0 ∷ 64 ∷ 64 ∷ 0x44492323 ∷ 1 ∷ 0 ∷ 0 ∷ 0 ∷ 0 ∷ 0 ∷ 0 ∷ tree-mark
-    ∷ 64 ∷ 168 ∷ 104 ∷ 0x44482323 ∷ 2 ∷ 0 ∷ 0 ∷ 6 ∷ 0 ∷ 0 ∷ 0 ∷ tree-mark ∷ []
-
--- tables and output lent exactly
-pub L-layout : layout-exit (lent 2 24 12 0 0 0) L
-    ≡ record { answer = ok (counts 2 2 6 0 0); visited = 0 ∷ 64 ∷ []; blocks = L-rows 0; links = replicate 12 0; gaps = []; scratch = []; out = [] }
-unfolding computed identification header L L-rows
-L-layout = refl
-
-pub L-listing : to-text-exit (lent 2 24 12 0 0 996) L
-    ≡ record {
-      answer = ok (counts 2 2 6 0 996);
-      visited = 0 ∷ 64 ∷ [];
-      blocks = L-rows 0;
-      links = replicate 12 0;
-      gaps = [];
-      scratch = [];
-      out =
-          ascii "MDF block layout (file size: 168 bytes / 0xa8)\n"
-          ++ ascii "\n"
-          ++ ascii "Blocks (2 total), sorted by offset:\n"
-          ++ ascii "offset        end                 size  type    description\n"
-          ++ ascii "------------  ------------  ----------  ------  ------------------------------------------------------------\n"
-          ++ ascii "0x0000000000  0x0000000040          64  ##ID    Identification: version='4.10', program='console1'\n"
-          ++ ascii "                                            version_number=410, standard_unfinalized_flags=0x0000, custom_unfinalized_flags=0x0000\n"
-          ++ ascii "0x0000000040  0x00000000a8         104  ##HD    Header Block (abs_time=0 ns, tz=0 min)\n"
-          ++ ascii "                                            flags=0x00, time_flags=0x00, time_quality=0x00\n"
-          ++ ascii "\n"
-          ++ ascii "Block links:\n"
-          ++ ascii "  ##HD @ 0x0000000040 (Header Block (abs_time=0 ns, tz=0 min))\n"
-          ++ ascii "    first_dg_addr                -> (null)\n"
-          ++ ascii "    file_history_addr            -> (null)\n"
-          ++ ascii "    channel_tree_addr            -> (null)\n"
-          ++ ascii "    first_attachment_addr        -> (null)\n"
-          ++ ascii "    first_event_addr             -> (null)\n"
-          ++ ascii "    comment_addr                 -> (null)\n";
-    }
-unfolding computed identification header L L-rows
-L-listing = refl
-
--- two root lines
-pub L-tree : to-tree-exit (lent 2 24 12 0 0 134) L
-    ≡ record {
-      answer = ok (counts 2 2 6 0 134);
-      visited = 0 ∷ 64 ∷ [];
-      blocks = L-rows 1;
-      links = replicate 12 0;
-      gaps = [];
-      scratch = [];
-      out =
-          ascii "##ID @ 0x0000000000 [Identification: version='4.10', program='console1']\n"
-          ++ ascii "##HD @ 0x0000000040 [Header Block (abs_time=0 ns, tz=0 min)]\n";
-    }
-unfolding computed identification header L L-rows
-L-tree = refl
-
--- no byte of L is clear
-pub L-clear : clear-list-exit (lent 2 24 12 0 4 24) L
-    ≡ record {
-      answer = ok (counts 2 2 6 0 24);
-      visited = 0 ∷ 64 ∷ [];
-      blocks = L-rows 0;
-      links = replicate 12 0;
-      gaps = [];
-      scratch = replicate 4 0;
-      out =
-          ascii "CLR" ++ 1 ∷ 0 ∷ 0 ∷ 0 ∷ 0 ∷ 168 ∷ replicate 15 0;
-    }
-unfolding computed identification header L L-rows
-L-clear = refl
+use Rattle.mdf4.proofs.Recordings.{lent, block, identification, header, L}
+use Rattle.mdf4.proofs.WorkedRows.{L-rows}
 
 -- 63 bytes, and a valid identification alone
 pub short-identification : layout-exit (lent 2 24 12 0 0 0) (replicate 63 0) .answer ≡ err (refusal 1 0 64 63)
@@ -335,11 +133,10 @@ pub list-visited : walk-data-region 0 (no-records 0) (make-link list-of-24 232) 
 unfolding computed identification header list-of-24
 list-visited = refl
 
--- a tree of one level too few stops at the first line too deep
-pub level-too-many : render-tree-node [] (record { state = start (record { visited = 0; blocks = 0; links = 0 }); blocks = []; gaps = [] }) 0 root (data-row 24) []
-    ≡ err (refusal 15 0 4096 0)
-unfolding computed data-row
-level-too-many = refl
+-- a tree line with no level left is refused, at its block
+pub level-too-many : (r : List ℕ) (y : Layout) (s : Edge) (w : Row) (v : List ℕ) → render-tree-node r y 0 s w v ≡ err (refusal 15 (w .off) 4096 0)
+unfolding computed
+level-too-many r y s w v = refl
 
 -- bytes behind the last block are clear
 pub L-tail : clear-list-exit (lent 2 24 12 2 4 40) (L ++ 1 ∷ 2 ∷ 3 ∷ 4 ∷ []) .out

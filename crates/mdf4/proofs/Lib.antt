@@ -17,4 +17,6 @@ pub mod TreeCode
 pub mod Demand3
 pub mod Blank
 pub mod Computed
+pub mod Recordings
+pub mod WorkedRows
 pub mod Answers
