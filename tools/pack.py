@@ -3,10 +3,9 @@
 
   pack.py PACK NAMES OUT
 
-PACK is what the oracle's `--pack` wrote for the recordings that NAMES lists, a name a line. Of each family of names (all that stands
-before the first digit) an even sample is taken, and every name without a digit. A recording of
-deep.py with 513 data lists is added; the Rust has no such limit, so its refusal is document 01's. Of one with 512, deep_lists_512.mf4,
-the tables alone are kept.
+PACK is what the oracle's `--pack` wrote for the recordings that NAMES lists, a name a line. All of recordings/ are taken, and of each
+family of other names (all that stands before the first digit) an even sample. A recording of deep.py with 513 data lists is added;
+the Rust has no such limit, so its refusal is document 01's. Of one with 512, deep_lists_512.mf4, the tables alone are kept.
 
 The pack: for each recording 72 bytes, then its parts. First the ends of the parts as u32, counted from the first part on: recording,
 visited words, block words, link words, gap words, listing, tree, CLR bytes; a part that is not compared is empty. Then as u32 the
@@ -78,7 +77,7 @@ def sample(names):
     for i, n in enumerate(names):
         base = n.rsplit("/", 1)[-1]
         families[re.sub(r"[0-9].*", "", base)].append(i)
-    taken = set()
+    taken = {i for i, n in enumerate(names) if n.startswith("recordings/")}
     for members in families.values():
         k = min(len(members), 6 + len(members) // 70)
         taken.update(members[j * len(members) // k] for j in range(k))

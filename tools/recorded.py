@@ -1,13 +1,14 @@
 #!/usr/bin/env python3
 """Writes computed rows that hold the definition against the Rust's answers: a module of antt for each recording.
 
-  recorded.py CRATE ANSWERS FILE..
+  recorded.py CRATE ANSWERS [FILE..]
 
-FILE.. are recordings; ANSWERS is the folder that the oracle's `--out` wrote for them (NAME.rows, and NAME.text and NAME.tree of
-an accepted one). The modules go to crates/CRATE/proofs/. Each row is proved by computation, so a definition that answers
-otherwise is refused. The clear list, which the Rust has not, is drawn here from the rows by document 01's text, apart from the
-definition.
+FILE.. are recordings; without one, those of recordings/ whose modules crates/CRATE/proofs/Lib.antt lists. ANSWERS is the folder that
+the oracle's `--out` wrote for them (NAME.rows, and NAME.text and NAME.tree of an accepted one). The modules and Lib.antt go to
+crates/CRATE/proofs/. Each row is proved by computation, so a definition that answers otherwise is refused. The clear list, which the
+Rust has not, is drawn here from the rows by document 01's text, apart from the definition.
 """
+import glob
 import os
 import struct
 import sys
@@ -18,15 +19,9 @@ use Prim.Native.Nat.{ℕ}
 use lib.ListN.{replicate}
 use Rattle.fmt.specs.Text.{ascii}
 use Rattle.mdf4.specs.Act.{%s}
-use Rattle.mdf4.specs.Answers.{%s, layout-exit, to-text-exit, to-tree-exit, clear-list-exit}
+use Rattle.mdf4.specs.Answers.{layout-exit, to-text-exit, to-tree-exit, clear-list-exit}
 use Rattle.mdf4.proofs.Computed.{computed}
-
-abbrev lent : ℕ → ℕ → ℕ → ℕ → ℕ → ℕ → Lent
-lent v b l g s o = record { visited = v; blocks = b; links = l; gaps = g; scratch = s; out = o }
-
-"""
-COUNTS = """abbrev counts : ℕ → ℕ → ℕ → ℕ → ℕ → Counts
-counts v b l g o = record { visited = v; blocks = b; links = l; gaps = g; bytes = o }
+use Rattle.mdf4.proofs.Recordings.{%s}
 
 """
 
@@ -137,7 +132,7 @@ def module(name, r, base):
     rows = open(base + ".rows", "rb").read()
     w = struct.unpack("<%dQ" % (len(rows) // 8), rows)
     out = "-- %s.mf4, as the Rust answers it.\n" % name
-    out += USES % ("ok", "Lent, Counts") + COUNTS if w[0] == 0 else USES % ("err, refusal", "Lent")
+    out += USES % (("ok", "lent, counts") if w[0] == 0 else ("err, refusal", "lent"))
     out += "recording : List ℕ\nrecording =\n%s\n\n" % content(r)
 
     def row(label, statement):
@@ -179,20 +174,32 @@ def module(name, r, base):
     return out.rstrip("\n") + "\n"
 
 
+def name_of(file):
+    return os.path.basename(file)[:-len(".mf4")]
+
+
+def module_name(file):
+    return "".join(x[:1].upper() + x[1:] for x in name_of(file).replace("-", "_").split("_"))
+
+
+def listed(lib):
+    """The recordings whose modules are listed."""
+    mods = {line.split()[-1] for line in open(lib) if line.startswith("pub mod ")}
+    return [f for f in glob.glob("recordings/*.mf4") if module_name(f) in mods]
+
+
 def main():
     crate, answers, files = sys.argv[1], sys.argv[2], sys.argv[3:]
     folder = os.path.join("crates", crate, "proofs")
+    lib = os.path.join(folder, "Lib.antt")
     os.makedirs(folder, exist_ok=True)
-    mods = []
-    for f in sorted(files):
-        name = os.path.basename(f)[:-len(".mf4")]
-        mod = "".join(x[:1].upper() + x[1:] for x in name.replace("-", "_").split("_"))
-        with open(os.path.join(folder, mod + ".antt"), "w") as o:
-            o.write(module(name, open(f, "rb").read(), os.path.join(answers, os.path.basename(f))))
-        mods.append(mod)
-    with open(os.path.join(folder, "Lib.antt"), "w") as o:
-        o.write("-- Recordings and the Rust's answers, as tools/recorded.py writes them.\n" + "".join("pub mod %s\n" % m for m in mods))
-    print(len(mods), "recordings")
+    files = sorted(files or listed(lib))
+    for f in files:
+        with open(os.path.join(folder, module_name(f) + ".antt"), "w") as o:
+            o.write(module(name_of(f), open(f, "rb").read(), os.path.join(answers, os.path.basename(f))))
+    with open(lib, "w") as o:
+        o.write("-- Recordings and the Rust's answers, as tools/recorded.py writes them.\n" + "".join("pub mod %s\n" % module_name(f) for f in files))
+    print(len(files), "recordings")
 
 
 if __name__ == "__main__":

@@ -5,11 +5,9 @@ use Prim.Native.Nat.{ℕ}
 use lib.ListN.{replicate}
 use Rattle.fmt.specs.Text.{ascii}
 use Rattle.mdf4.specs.Act.{err, refusal}
-use Rattle.mdf4.specs.Answers.{Lent, layout-exit, to-text-exit, to-tree-exit, clear-list-exit}
+use Rattle.mdf4.specs.Answers.{layout-exit, to-text-exit, to-tree-exit, clear-list-exit}
 use Rattle.mdf4.proofs.Computed.{computed}
-
-abbrev lent : ℕ → ℕ → ℕ → ℕ → ℕ → ℕ → Lent
-lent v b l g s o = record { visited = v; blocks = b; links = l; gaps = g; scratch = s; out = o }
+use Rattle.mdf4.proofs.Recordings.{lent}
 
 recording : List ℕ
 recording =
