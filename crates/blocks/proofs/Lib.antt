@@ -14,7 +14,6 @@ pub mod SourceBlock
 pub mod DataListBlock
 pub mod Told
 pub mod Texts
-pub mod Names
 pub mod Version
 pub mod Identification
 pub mod ReaderWalk

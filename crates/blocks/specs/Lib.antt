@@ -11,5 +11,4 @@ pub mod SourceBlock
 pub mod DataListBlock
 pub mod TextBlock
 pub mod MetadataBlock
-pub mod Name
 pub mod IdentificationBlock

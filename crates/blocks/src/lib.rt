@@ -12,7 +12,6 @@ pub mod extent;
 pub mod header_block;
 pub mod identification_block;
 pub mod metadata_block;
-pub mod name;
 pub mod reader;
 pub mod source_block;
 pub mod text_block;

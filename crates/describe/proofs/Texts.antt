@@ -24,10 +24,10 @@ use Rattle.mdf4.specs.Describe.{describe, describe-of, tx-text, md-text, name-b
 use Rattle.mdf4.proofs.Bytes.{or-right}
 use Rattle.mdf4.proofs.Results.{and-then-ok, never}
 use Rattle.tables.proofs.Sorting.{Place, less, same, more, place}
-use Rattle.blocks.specs.Name.{name-at}
+use Rattle.channel_name.specs.Name.{name-at}
 use Rattle.blocks.proofs.Told.{ok-is}
 use Rattle.blocks.proofs.Texts.{tail}
-use Rattle.blocks.proofs.Names.{null-name, name-stopped}
+use Rattle.channel_name.proofs.Names.{null-name, name-stopped}
 use Rattle.describe.specs.declared.BlockInfo.{BlockInfo}
 use Rattle.describe.specs.Info.{row-of, OfKind, TextInside}
 use Rattle.describe.proofs.Rows.{described, whole}

@@ -23,10 +23,10 @@ use Rattle.mdf4.specs.Describe.{describe, extra-line, indented, records, traili
 use Rattle.mdf4.proofs.Good.{Readable}
 use Rattle.tables.specs.Rows.{kind-of}
 use Rattle.blocks.specs.declared.error.MdfError.{MdfError}
-use Rattle.blocks.specs.declared.name.NameRead.{NameRead}
-use Rattle.blocks.specs.declared.name.NameRead.the-variants.{Text, None, Refused}
+use Rattle.channel_name.specs.declared.NameRead.{NameRead}
+use Rattle.channel_name.specs.declared.NameRead.the-variants.{Text, None, Refused}
 use Rattle.blocks.specs.Errors.{numbers}
-use Rattle.blocks.specs.Name.{name-at, Named}
+use Rattle.channel_name.specs.Name.{name-at, Named}
 use Rattle.blocks.specs.declared.header_block.HeaderBlock.{HeaderBlock}
 use Rattle.blocks.specs.declared.data_group_block.DataGroupBlock.{DataGroupBlock}
 use Rattle.blocks.specs.declared.channel_group_block.ChannelGroupBlock.{ChannelGroupBlock}

@@ -13,8 +13,8 @@ ghost use Rattle.walker.specs.Channels.{channel-source, channel-texts, c
 use blocks::channel_block::ChannelBlock;
 use blocks::channel_block::ChannelBlockRead;
 use blocks::error::MdfError;
-use blocks::name::NameRead;
-use blocks::name::read_text_at;
+use channel_name::NameRead;
+use channel_name::read_text_at;
 use walk_blocks::regions::walk_data_region;
 use walk_blocks::texts::plain_block;
 use walk_blocks::texts::walk_conversion;

@@ -7,12 +7,12 @@ use types.Run.{OneOf, miss}
 use denote.Enum.Declared.{tagOf}
 use Rattle.mdf4.specs.Act.{ok}
 use Rattle.mdf4.specs.Kinds.{make-link, name-head, name-check}
-use Rattle.blocks.specs.declared.name.NameRead.{NameRead}
-use Rattle.blocks.specs.declared.name.NameRead.the-variants.{Text, None, Refused}
-use Rattle.blocks.specs.Name.{name-read, Named}
-use Rattle.blocks.proofs.name.NameRead.{the-type}
+use Rattle.channel_name.specs.declared.NameRead.{NameRead}
+use Rattle.channel_name.specs.declared.NameRead.the-variants.{Text, None, Refused}
+use Rattle.channel_name.specs.Name.{name-read, Named}
+use Rattle.channel_name.proofs.NameRead.{the-type}
 use Rattle.blocks.proofs.Told.{told-as}
-use Rattle.blocks.proofs.Names.{name-passed, name-stopped}
+use Rattle.channel_name.proofs.Names.{name-passed, name-stopped}
 use borrow.Author.Needs.{needs}
 use Rattle.walker.proofs.channels.check_name.Statement.{statement}
 use Rattle.walker.proofs.channels.check_name.Tie as tie

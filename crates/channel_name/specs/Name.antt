@@ -8,9 +8,9 @@ use Rattle.utf8.specs.Utf8.{lossy}
 use Rattle.mdf4.specs.Act.{Out, ok, err, and-then, Link}
 use Rattle.mdf4.specs.Kinds.{make-link, name-head, name-check}
 use Rattle.mdf4.specs.Describe.{name-bytes, name-text}
 use Rattle.blocks.specs.Errors.{numbers}
-use Rattle.blocks.specs.declared.name.NameRead.{NameRead}
-use Rattle.blocks.specs.declared.name.NameRead.the-variants.{Text, None, Refused}
+use Rattle.channel_name.specs.declared.NameRead.{NameRead}
+use Rattle.channel_name.specs.declared.NameRead.the-variants.{Text, None, Refused}
 
 -- the name as it is shown, of the recording r
 abbrev pub name-read : List ℕ → NameRead → Out (List ℕ)

@@ -1,11 +1,11 @@
 // A channel's name, as read_text_at of block_layout.rs reads it.
 ghost use mathlib.Core.Path.{_≡_};
-ghost use Rattle.blocks.specs.Name.{Named};
+ghost use Rattle.channel_name.specs.Name.{Named};
 ghost use Rattle.blocks.specs.declared.error.MdfError.the-variants.{SumOverflow};
-ghost use Rattle.blocks.specs.declared.name.NameRead.the-variants.{Refused};
-use crate::common::BlockHeader;
-use crate::error::MdfError;
-use crate::text_block::TextBlock;
+ghost use Rattle.channel_name.specs.declared.NameRead.the-variants.{Refused};
+use blocks::common::BlockHeader;
+use blocks::error::MdfError;
+use blocks::text_block::TextBlock;
 use utf8::trim_nuls;
 
 pub enum NameRead {

@@ -1,9 +1,9 @@
 -- `read_text_at` meets its contract: an answer for each test of the address, the mark and the length, in their order.
 use native.Mathlib.Omega.{arith}
-use Rattle.blocks.proofs.Names.{null-name, name-past, name-outside, name-other, name-long, name-short, name-beyond, name-whole}
+use Rattle.channel_name.proofs.Names.{null-name, name-past, name-outside, name-other, name-long, name-short, name-beyond, name-whole}
 use borrow.Author.Needs.{needs}
-use Rattle.blocks.proofs.name.read_text_at.Statement.{statement}
-use Rattle.blocks.proofs.name.read_text_at.Tie as tie
+use Rattle.channel_name.proofs.read_text_at.Statement.{statement}
+use Rattle.channel_name.proofs.read_text_at.Tie as tie
 
 returns : tie.Need-returns
 returns c = record { says = null-name (c .before .before .args .file .now) (omega arith); inside = tt }

@@ -19,11 +19,11 @@ use Rattle.mdf4.specs.Describe.{name-bytes, name-text}
 use Rattle.mdf4.proofs.Bytes.{or-right}
 use Rattle.mdf4.proofs.Results.{and-then-ok}
 use Rattle.mdf4.proofs.Fields.{part-bytes, num-bytes}
 use Rattle.blocks.specs.declared.common.BlockHeader.{BlockHeader}
 use Rattle.blocks.specs.Headers.{header-of}
-use Rattle.blocks.specs.Name.{name-at}
+use Rattle.channel_name.specs.Name.{name-at}
 use Rattle.blocks.proofs.Told.{ok-only}
 use Rattle.blocks.proofs.Texts.{len-is, tail}
 
 nameless : name-text [] ≡ []
 unfolding name-text block-len num bytes little lossy chunks chunks-after shown-all trim-nuls trim-end-nuls trim-start-nuls drop-end

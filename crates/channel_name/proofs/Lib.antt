@@ -1,0 +1,2 @@
+-- Laws of a channel's name.
+pub mod Names
