@@ -21,7 +21,7 @@ extern "C" {
 
 /*
  * The words of an answer. An `answer` with fewer words takes those that fit; words behind the ninth are left as they were.
- * A refusal has its number (1 to 15), place, a and b, then five zeros.
+ * A refusal has its number (1 to 7 or 9 to 15), place, a and b, then five zeros.
  */
 enum {
     BLOCK_LAYOUT_NUMBER = 0, /* 0: accepted */

@@ -1,14 +1,19 @@
--- Demand 3 of the four entries, in its order. A call takes the recording r and lends tables and output of the lengths n; it answers a
--- and leaves the words and bytes v, b, l, g, s and o, which `left` puts together. The hypothesis on a call is its contract word for
--- word (src/lib.rt), so what stands here holds of every call. Where an entry takes no scratch table or no output, s or o is [].
+-- Demand 3 of the four entries, in its order, and what document 02's orders add. A call takes the recording r and lends tables and
+-- output of the lengths n; it answers a and leaves the words and bytes v, b, l, g, s and o, which `left` puts together. The hypothesis
+-- on a call is its contract word for word (src/lib.rt), so what stands here holds of every call. Where an entry takes no scratch table
+-- or no output, s or o is [].
 use mathlib.Core.Path.{_≡_, refl, sym, ap, _∙_}
 use mathlib.Core.List.{List}
 use Prim.Native.Nat.{ℕ}
-use Rattle.mdf4.specs.Act.{ok}
+use Rattle.mdf4.specs.Act.{Refusal, ok, err}
 use Rattle.mdf4.specs.Answers.{Lent, Counts, Exit, layout-exit, to-text-exit, to-tree-exit, clear-list-exit}
 use Rattle.mdf4.specs.Demand3.{Alike, Again, Tables, Cleared}
+use Rattle.mdf4.proofs.Results.{never}
 use Rattle.mdf4.proofs.Demand3 as law
+use Rattle.blocks.specs.Errors.{numbers}
+use Rattle.blocks.proofs.Errors as errors
 use Rattle.block_layout.specs.declared.Answer.{Answer}
+use Rattle.block_layout.specs.declared.Answer.the-variants.{Accepted, Refused}
 use Rattle.block_layout.specs.Entries.{answered, exit-with, left}
 
 answer-is : (a : Answer) (v b l g s o : List ℕ) → left a v b l g s o .answer ≡ answered a
@@ -67,3 +72,8 @@ module _ (n : Lent) (r : List ℕ) (a : Answer) (v b l g s o : List ℕ) (c : Co
   clear-list-cleared p =
       let e : clear-list-exit n r .answer ≡ ok c = ap (λ (x : Exit). x .answer) (sym p) ∙ answer-is a v b l g s o ∙ accepted in
       rw p (law.cleared n r c e)
+
+-- No call answers 8 (document 02, order 2).
+pub never-8 : (a : Answer) {e : Refusal} → answered a ≡ err e → e .number ≡ 8 → ⊥
+never-8 (Accepted v b l g n) p q = never p
+never-8 (Refused x) {e} p q = let z : numbers x ≡ e = cc in errors.never-8 x (ap (λ (y : Refusal). y .number) z ∙ q)

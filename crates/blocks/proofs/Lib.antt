@@ -1,4 +1,5 @@
 -- Laws of the parsers.
+pub mod Errors
 pub mod Headers
 pub mod Fixed
 pub mod Plain

@@ -2,7 +2,7 @@
 use Rattle.mdf4.specs.Act.{Refusal, refusal}
 use Rattle.blocks.specs.declared.error.Refusal as declared
 use Rattle.blocks.specs.declared.error.MdfError.{MdfError}
-use Rattle.blocks.specs.declared.error.MdfError.the-variants.{TooShortBuffer, FileIdentifierError, InvalidVersionString, FileVersioningError, BlockIDError, BlockSerializationError, SumOverflow, ShortName, Conversion, VisitedFull, BlocksFull, LinksFull, TableTooShort, OutputTooShort, TooDeep}
+use Rattle.blocks.specs.declared.error.MdfError.the-variants.{TooShortBuffer, FileIdentifierError, InvalidVersionString, FileVersioningError, BlockIDError, BlockSerializationError, SumOverflow, Conversion, VisitedFull, BlocksFull, LinksFull, TableTooShort, OutputTooShort, TooDeep}
 
 abbrev pub numbers : MdfError → Refusal
 numbers (TooShortBuffer place expected actual) = refusal 1 place expected actual
@@ -12,7 +12,6 @@ numbers (FileVersioningError number) = refusal 4 8 number 0
 numbers (BlockIDError place expected actual) = refusal 5 place expected actual
 numbers (BlockSerializationError place links-nr block-len) = refusal 6 place links-nr block-len
 numbers (SumOverflow place a b) = refusal 7 place a b
-numbers (ShortName place block-len) = refusal 8 place block-len 24
 numbers (Conversion place channel) = refusal 9 place channel 0
 numbers (VisitedFull place lent) = refusal 10 place lent 0
 numbers (BlocksFull place lent) = refusal 11 place lent 0

@@ -3,7 +3,6 @@
 ghost use mathlib.Core.Path.{_≡_};
 ghost use Rattle.mdf4.specs.Act as spec;
 ghost use Rattle.blocks.specs.Errors.{numbers, refusal-of};
-use crate::text_block::TextBlock;
 
 pub enum MdfError {
     TooShortBuffer {
@@ -34,11 +33,6 @@ pub enum MdfError {
         place: u64,
         a: u64,
         b: u64,
-    },
-    // the Rust panics: a channel's name with block_len under 24
-    ShortName {
-        place: u64,
-        block_len: u64,
     },
     Conversion {
         place: u64,
@@ -113,12 +107,6 @@ impl MdfError {
                 block_len,
             } => four(6, place, links_nr, block_len),
             MdfError::SumOverflow { place, a, b } => four(7, place, a, b),
-            MdfError::ShortName { place, block_len } => four(
-                8,
-                place,
-                block_len,
-                TextBlock::MIN_LEN,
-            ),
             MdfError::Conversion { place, channel } => four(9, place, channel, 0),
             MdfError::VisitedFull { place, lent } => four(10, place, lent, 0),
             MdfError::BlocksFull { place, lent } => four(11, place, lent, 0),

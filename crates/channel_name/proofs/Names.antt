@@ -1,13 +1,13 @@
 -- A channel's name, case by case.
 use mathlib.Core.Path.{_≡_, refl, sym, _∙_}
-use mathlib.Core.Bool.{true, false, cond, _||_, and-false}
+use mathlib.Core.Bool.{Bool, true, false, cond, _||_, and-false}
 use mathlib.Core.List.{List, []}
 use Prim.Native.Nat.{ℕ, _+_, _-_, _^_, _≤_, _<_, max}
 use native.Mathlib.Omega.{arith}
 use lib.Dec.{leb, ltb, eqb}
 use lib.ListN.{length, take, drop, length-take, length-drop}
 use lib.Seq.{slice, take-all}
-use borrow.Author.Tests.{le-leb, lt-leb, lt-ltb, le-ltb, eq-eqb, ne-eqb}
+use borrow.Author.Tests.{le-leb, lt-leb, lt-ltb, le-ltb, eq-eqb, ne-eqb, ltb-true, ltb-false}
 use Rattle.utf8.specs.Utf8.{chunks-after, chunks, shown-all, lossy}
 use Rattle.utf8.specs.White.{drop-end}
 use Rattle.utf8.specs.Nul.{trim-start-nuls, trim-end-nuls, trim-nuls}
@@ -17,12 +17,13 @@ use Rattle.mdf4.specs.Act.{Refusal, Out, ok, err, refusal, and-then, check, Lin
 use Rattle.mdf4.specs.Kinds.{shape, block-len, make-link, leads-to, name-is-text, name-head, name-check, name-len}
 use Rattle.mdf4.specs.Describe.{name-bytes, name-text}
 use Rattle.mdf4.proofs.Bytes.{or-right}
-use Rattle.mdf4.proofs.Results.{and-then-ok}
+use Rattle.mdf4.proofs.Results.{and-then-ok, never}
 use Rattle.mdf4.proofs.Fields.{part-bytes, num-bytes}
+use Rattle.mdf4.proofs.ShortNames.{name-inside, head-is, name-accepted, short-accepted, short-empty}
 use Rattle.blocks.specs.declared.common.BlockHeader.{BlockHeader}
 use Rattle.blocks.specs.Headers.{header-of}
 use Rattle.channel_name.specs.Name.{name-at}
-use Rattle.blocks.proofs.Told.{ok-only}
+use Rattle.blocks.proofs.Told.{ok-is, ok-only}
 use Rattle.blocks.proofs.Texts.{len-is, tail}
 
 nameless : name-text [] ≡ []
@@ -80,7 +81,7 @@ module _ (r : List ℕ) (a : ℕ) (some : a ≡ 0 → ⊥) where
 
         -- what is left to ask, and the bytes that are read
         checked : name-at r (make-link r a)
-            ≡ and-then (and-then (check (ltb (a + long) (2 ^ 64)) (refusal 7 a a long)) (λ u. check (leb 24 long) (refusal 8 a long 24)))
+            ≡ and-then (check (ltb (a + long) (2 ^ 64)) (refusal 7 a a long))
             (λ u. ok (name-text (bytes r a (cond (leb (a + max 24 long) (length r)) (max 24 long) 24))))
         unfolding name-at name-check name-bytes name-head name-len make-link header-of and-then check
         checked = rw (is-text, sum-ok, ← headed)
@@ -90,10 +91,6 @@ module _ (r : List ℕ) (a : ℕ) (some : a ≡ 0 → ⊥) where
         name-long l = rw (checked, le-ltb (a + long) (2 ^ 64) l)
 
         module _ (sum : a + long < 2 ^ 64) where
-          pub name-short : long < 24 → _≡_ {A = Out (List ℕ)} (err (refusal 8 a long 24)) (name-at r (make-link r a))
-          unfolding and-then check
-          name-short l = rw (checked, lt-ltb (a + long) (2 ^ 64) sum, lt-leb 24 long l)
-
           long-is : (n : ℕ) → 24 ≤ n → block-len (bytes r a n) ≡ long
           unfolding header-of
           long-is n l = rw (← headed) (len-is r a n l)
@@ -101,6 +98,12 @@ module _ (r : List ℕ) (a : ℕ) (some : a ≡ 0 → ⊥) where
           length-is : (n : ℕ) → a + n ≤ length r → length (bytes r a n) ≡ n
           unfolding bytes
           length-is n l = rw (length-take, length-drop) (omega arith)
+
+          pub name-short : long < 24 → ok [] ≡ name-at r (make-link r a)
+          unfolding name-at and-then make-link
+          name-short l =
+              let d : block-len (name-head r (make-link r a)) < 24 = rw (head-is r (make-link r a) is-text, long-is 24 (omega arith)) l in
+              rw (short-accepted r (make-link r a) is-text d fits, short-empty r (make-link r a) is-text d)
 
           module _ (least : 24 ≤ long) where
             pub name-beyond : length r < a + long → ok [] ≡ name-at r (make-link r a)
@@ -110,7 +113,6 @@ module _ (r : List ℕ) (a : ℕ) (some : a ≡ 0 → ⊥) where
                 rw (
                   checked,
                   lt-ltb (a + long) (2 ^ 64) sum,
-                  le-leb 24 long least,
                   m,
                   lt-leb (a + long) (length r) l,
                   long-is 24 (omega arith),
@@ -125,7 +127,6 @@ module _ (r : List ℕ) (a : ℕ) (some : a ≡ 0 → ⊥) where
                 rw (
                   checked,
                   lt-ltb (a + long) (2 ^ 64) sum,
-                  le-leb 24 long least,
                   m,
                   le-leb (a + long) (length r) l,
                   long-is long least,
@@ -144,3 +145,42 @@ name-passed r l {x} e = and-then-ok (name-check (length r) l (name-head r l)) _ 
 pub name-stopped : (r : List ℕ) (l : Link) {e : Refusal} → err e ≡ name-at r l → name-check (length r) l (name-head r l) ≡ err e
 unfolding name-at
 name-stopped r l e = ok-only (name-check (length r) l (name-head r l)) (λ u. name-text (name-bytes r l)) _ (sym e)
+
+-- what is shown is the name
+pub name-is : (r : List ℕ) (l : Link) {x : List ℕ} → ok x ≡ name-at r l → x ≡ name-text (name-bytes r l)
+unfolding name-at
+name-is r l {x} e = sym (ok-is (and-then-ok (name-check (length r) l (name-head r l)) _ x (sym e) .2))
+
+-- a name that is refused is shown as none: where its address + 24 passes 2^64 it is no text, and where its address + block_len does
+-- it passes the file's end
+module _ (r : List ℕ) (a : ℕ) (small : length r < 2 ^ 64) where
+  abbrev head-long : ℕ
+  head-long = block-len (bytes r a 24)
+
+  module _ (text : name-is-text (length r) (make-link r a) ≡ true) where
+    passed : a + head-long < 2 ^ 64 → name-check (length r) (make-link r a) (name-head r (make-link r a)) ≡ ok tt
+    unfolding make-link
+    passed s =
+        let i : a + 24 ≤ length r = name-inside r (make-link r a) text in
+        name-accepted r (make-link r a) text (omega (arith, i)) (rw (head-is r (make-link r a) text) s)
+
+    far : 2 ^ 64 ≤ a + head-long → name-text (name-bytes r (make-link r a)) ≡ []
+    unfolding name-bytes name-len name-head make-link name-text bytes
+    far s =
+        let i : a + 24 ≤ length r = name-inside r (make-link r a) text in
+        let n : length (take 24 (drop a r)) ≡ 24 = rw (length-take, length-drop) (omega arith) in
+        rw (text, lt-leb (a + max 24 head-long) (length r) (omega (arith, i)), n, lt-leb head-long 24 (omega (arith, i)))
+
+    text-none : {e : Refusal} → name-check (length r) (make-link r a) (name-head r (make-link r a)) ≡ err e → name-text (name-bytes r (make-link r a)) ≡ []
+    text-none {e} q = go (ltb (a + head-long) (2 ^ 64)) refl
+      where
+        go : (b : Bool) → ltb (a + head-long) (2 ^ 64) ≡ b → name-text (name-bytes r (make-link r a)) ≡ []
+        go true h = never (sym (passed (ltb-true (a + head-long) (2 ^ 64) h)) ∙ q)
+        go false h = far (ltb-false (a + head-long) (2 ^ 64) h)
+
+  pub name-none : {e : Refusal} → err e ≡ name-at r (make-link r a) → name-text (name-bytes r (make-link r a)) ≡ []
+  name-none {e} q = go (name-is-text (length r) (make-link r a)) refl
+    where
+      go : (t : Bool) → name-is-text (length r) (make-link r a) ≡ t → name-text (name-bytes r (make-link r a)) ≡ []
+      go true h = text-none h (name-stopped r (make-link r a) q)
+      go false h = unfold name-bytes in rw h nameless

@@ -18,7 +18,7 @@ name-read r (Text from to) = ok (lossy (slice from to r))
 name-read r None = ok []
 name-read r (Refused e) = err (numbers e)
 
--- refusals 7 and 8, then the name that the link leads to
+-- refusal 7, then the name that the link leads to
 unfoldable pub name-at : List ℕ → Link → Out (List ℕ)
 name-at r l = and-then (name-check (length r) l (name-head r l)) (λ u. ok (name-text (name-bytes r l)))
 

@@ -22,7 +22,7 @@ fn past_u64(a: u64, b: u64) -> NameRead
     NameRead::Refused(MdfError::SumOverflow { place: a, a, b })
 }
 
-// NULs are off both ends of the name.
+// NULs are off both ends of the name. Where the Rust panics, on a block_len under 24, it is empty (document 02, order 2).
 pub fn read_text_at(file: &[u8], addr: u64) -> NameRead
     ensures { λ r. ⌜ Named (now (file .entry)) addr r ⌝ }
 {
@@ -47,10 +47,7 @@ pub fn read_text_at(file: &[u8], addr: u64) -> NameRead
         return past_u64(addr, block_len);
     }
     if block_len < TextBlock::MIN_LEN {
-        return NameRead::Refused(MdfError::ShortName {
-            place: addr,
-            block_len,
-        });
+        return NameRead::None;
     }
     if len < addr + block_len {
         return NameRead::None;

@@ -27,6 +27,7 @@ use Rattle.channel_name.specs.declared.NameRead.{NameRead}
 use Rattle.channel_name.specs.declared.NameRead.the-variants.{Text, None, Refused}
 use Rattle.blocks.specs.Errors.{numbers}
 use Rattle.channel_name.specs.Name.{name-at, Named}
+use Rattle.channel_name.proofs.Names.{name-is, name-none}
 use Rattle.blocks.specs.declared.header_block.HeaderBlock.{HeaderBlock}
 use Rattle.blocks.specs.declared.data_group_block.DataGroupBlock.{DataGroupBlock}
 use Rattle.blocks.specs.declared.channel_group_block.ChannelGroupBlock.{ChannelGroupBlock}
@@ -46,7 +47,7 @@ use Rattle.describe.specs.Info.{row-of, OfKind}
 use Rattle.describe.proofs.Rows.{rest-is}
 use Rattle.describe.proofs.Said.{id-fits, id-said, hd-fits, hd-said, dg-fits, dg-said, cn-fits, cn-said, cg-fits, cg-said, si-fits, si-said, dl-fits, dl-said, dt-said, sd-said, ut-said, ud-said}
 use Rattle.describe.proofs.Lines.{id-line, hd-line, cg-line, cn-line, dl-line, trailing-some, trailing-none, records-said, dt-line-none, dt-line-some, no-line}
-use Rattle.describe.proofs.Texts.{tx-said, md-said, name-is, name-none}
+use Rattle.describe.proofs.Texts.{tx-said, md-said}
 use Rattle.describe.specs.Links.{link-names}
 use Rattle.describe.proofs.Marks.{mark-is, mark-short}
 use Rattle.describe.proofs.Names.{list-kind, fixed-link}

@@ -1,9 +1,10 @@
 -- Further rows, proved by computation: document 01's rows worked by hand that have no star (WorkedRows.antt has the starred ones),
--- limits, one row for each of its wrong turns that no starred row rules out, and rows where it is silent and the Rust decides.
+-- limits, one row for each of its wrong turns that no starred row rules out, rows of document 02's orders, and rows where document 01
+-- is silent and the Rust decides.
 use mathlib.Core.Path.{_≡_, refl}
 use mathlib.Core.List.{List, [], _∷_, _++_}
-use Prim.Native.Nat.{ℕ}
-use lib.ListN.{replicate}
+use Prim.Native.Nat.{ℕ, _-_, _^_}
+use lib.ListN.{replicate, drop}
 use Rattle.fmt.specs.Text.{ascii}
 use Rattle.mdf4.specs.Act.{ok, err, refusal, stopped, marked, DL, Row}
 use Rattle.mdf4.specs.Kinds.{make-link, no-records, cg-records}
@@ -11,8 +12,9 @@ use Rattle.mdf4.specs.Version.{version}
 use Rattle.mdf4.specs.Walk.{start, walk-data-region}
 use Rattle.mdf4.specs.Layout.{Layout}
 use Rattle.mdf4.specs.Clear.{le-bytes}
+use Rattle.mdf4.specs.Describe.{name-text}
 use Rattle.mdf4.specs.Tree.{Edge, render-tree-node}
-use Rattle.mdf4.specs.Answers.{layout-exit, to-text-exit, clear-list-exit}
+use Rattle.mdf4.specs.Answers.{layout-exit, to-text-exit, to-tree-exit, clear-list-exit}
 use Rattle.mdf4.proofs.Computed.{computed}
 use Rattle.mdf4.proofs.Recordings.{lent, block, identification, header, L}
 use Rattle.mdf4.proofs.WorkedRows.{L-rows}
@@ -67,19 +69,78 @@ pub list-walked : layout-exit (lent 5 60 24 2 0 0) list-of-24 .visited ≡ 0 ∷
 unfolding computed identification header list-of-24
 list-walked = refl
 
--- a channel name is read: of a data group at 168 with one group at 232, which has one channel at 336, named by a text at 496, the
--- clear list asks a scratch row for each of 6 blocks, for each of 4 links and for the name
-unfoldable pub one-channel : List ℕ
-one-channel =
+-- a data group at 168 with one group at 232, which has one channel at 336, named by the block at 496
+unfoldable pub one-channel : List ℕ → List ℕ
+one-channel name =
     identification ++ header (le-bytes 8 168 ++ replicate 40 0)
     ++ block (ascii "##DG") 64 4 (replicate 8 0 ++ le-bytes 8 232 ++ replicate 24 0)
     ++ block (ascii "##CG") 104 6 (replicate 8 0 ++ le-bytes 8 336 ++ replicate 64 0)
     ++ block (ascii "##CN") 160 8 (replicate 16 0 ++ le-bytes 8 496 ++ replicate 112 0)
-    ++ block (ascii "##TX") 29 0 (ascii "speed")
+    ++ name
 
-pub name-read : clear-list-exit (lent 6 72 48 0 20 24) one-channel .answer ≡ err (refusal 13 0 10 11)
+-- a channel name is read: the clear list asks a scratch row for each of 6 blocks, for each of 4 links and for the name
+pub name-read : clear-list-exit (lent 6 72 48 0 20 24) (one-channel (block (ascii "##TX") 29 0 (ascii "speed"))) .answer ≡ err (refusal 13 0 10 11)
 unfolding computed identification header one-channel
 name-read = refl
+
+-- Document 02, order 2: a name that is ##TX with a block_len under 24 is empty. The last of its 24 bytes is not 0, so that a name which
+-- began before the 25th would show it.
+unfoldable pub short-block : ℕ → List ℕ
+short-block len = ascii "##TX" ++ replicate 4 0 ++ le-bytes 8 len ++ replicate 7 0 ++ ascii "A"
+
+pub short-name-23 : name-text (short-block 23) ≡ []
+unfolding computed short-block
+short-name-23 = refl
+
+pub short-name-0 : name-text (short-block 0) ≡ []
+unfolding computed short-block
+short-name-0 = refl
+
+-- with such a name, the file's last 24 bytes
+unfoldable pub short-name : ℕ → List ℕ
+short-name len = one-channel (short-block len)
+
+-- the channel is listed, and the text after it as any text: its end is its offset + block_len
+pub short-name-rows : drop 48 (layout-exit (lent 6 72 48 2 0 0) (short-name 23) .blocks)
+    ≡ 336 ∷ 496 ∷ 160 ∷ 0x4e432323 ∷ 5 ∷ 0 ∷ 16 ∷ 8 ∷ 0 ∷ 0 ∷ 0 ∷ 0
+    ∷ 496 ∷ 519 ∷ 23 ∷ 0x58542323 ∷ 7 ∷ 0 ∷ 0 ∷ 0 ∷ 0 ∷ 0 ∷ 0 ∷ 0 ∷ []
+unfolding computed identification header one-channel short-block short-name
+short-name-rows = refl
+
+unfoldable pub short-name-lines : List ℕ
+short-name-lines =
+    ascii "##ID @ 0x0000000000 [Identification: version='4.10', program='console1']\n"
+    ++ ascii "##HD @ 0x0000000040 [Header Block (abs_time=0 ns, tz=0 min)]\n"
+    ++ ascii "`-- (first_dg_addr) ##DG @ 0x00000000a8 [Data Group #0 (record_id_len=0)]\n"
+    ++ ascii "    `-- (first_cg_addr) ##CG @ 0x00000000e8 [Channel Group #0 (cycles=0, record=0B = 0B data + 0B inval + 0B record_id)]\n"
+    ++ ascii "        `-- (first_ch_addr) ##CN @ 0x0000000150 [Channel #0 '' (ch_type=0, sync=0, dtype=UnsignedIntegerLE, 0b @ byte=0 bit=0)]\n"
+    ++ ascii "            `-- (name_addr) ##TX @ 0x00000001f0 [Text: \"\" (0 chars)]\n"
+
+pub short-name-tree : to-tree-exit (lent 6 72 48 2 0 526) (short-name 23) .out ≡ short-name-lines
+unfolding computed identification header one-channel short-block short-name short-name-lines
+short-name-tree = refl
+
+pub empty-name-tree : to-tree-exit (lent 6 72 48 2 0 526) (short-name 0) .out ≡ short-name-lines
+unfolding computed identification header one-channel short-block short-name short-name-lines
+empty-name-tree = refl
+
+-- 24 bytes of it are read: none of them is clear, though a gap holds all from its end on, and the name has its scratch row
+pub short-name-gap : layout-exit (lent 6 72 48 2 0 0) (short-name 0) .gaps ≡ 496 ∷ 520 ∷ []
+unfolding computed identification header one-channel short-block short-name
+short-name-gap = refl
+
+pub short-name-kept : clear-list-exit (lent 6 72 48 2 22 24) (short-name 0) .out ≡ ascii "CLR" ++ 1 ∷ 0 ∷ 0 ∷ 0 ∷ 0 ∷ 8 ∷ 2 ∷ replicate 14 0
+unfolding computed identification header one-channel short-block short-name
+short-name-kept = refl
+
+pub short-name-read : clear-list-exit (lent 6 72 48 2 20 24) (short-name 0) .answer ≡ err (refusal 13 0 10 11)
+unfolding computed identification header one-channel short-block short-name
+short-name-read = refl
+
+-- refusal 7 of a name's block_len stays: the address 496 and 2^64 - 496
+pub long-name-refused : layout-exit (lent 6 72 48 2 0 0) (short-name (2 ^ 64 - 496)) .answer ≡ err (refusal 7 496 496 (2 ^ 64 - 496))
+unfolding computed identification header one-channel short-block short-name
+long-name-refused = refl
 
 -- Where document 01 is silent, the Rust decides (docs/DECISIONS.md): a version loses trailing NULs first, then White_Space
 pub version-nul-space : version (ascii "4.10" ++ 0 ∷ 32 ∷ 32 ∷ 32 ∷ []) ≡ err (refusal 3 8 3 0)

@@ -12,6 +12,7 @@ pub mod Runs
 pub mod Laid
 pub mod Fields
 pub mod Texts
+pub mod ShortNames
 pub mod Tree
 pub mod TreeCode
 pub mod Demand3

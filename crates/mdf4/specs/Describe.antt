@@ -28,7 +28,7 @@ unfoldable pub data-type-name : ℕ → List ℕ
 data-type-name t = getD data-type-names (min t 17) []
 
 -- a channel's name (`read_text_at`): the bytes that are read of it, and the text in them, NULs off both ends; none where the
--- block passes the file's end
+-- block passes the file's end, or where its block_len is under 24 (document 02, order 2)
 unfoldable pub name-bytes : List ℕ → Link → List ℕ
 name-bytes r l = cond (name-is-text (length r) l) (bytes r (l .target) (name-len (length r) l (name-head r l))) []
 

@@ -147,14 +147,12 @@ name-is-text len l = leads-to (shape TX .mark) l && leb (l .target + 24) len
 unfoldable pub name-head : List ℕ → Link → List ℕ
 name-head r l = cond (name-is-text (length r) l) (bytes r (l .target) 24) []
 
--- refusals 7 and 8, of the link and the header h at its target
+-- refusal 7, of the link and the header h at its target. A block_len under 24 is not refused (document 02, order 2): such a name is
+-- empty.
 unfoldable pub name-check : ℕ → Link → List ℕ → Out (Unit {0})
 name-check len l h =
     and-then (check (eqb (l .target) 0 || ltb (l .target + 24) (2 ^ 64)) (refusal 7 (l .target) (l .target) 24)) (λ u.
-    cond (name-is-text len l)
-    (and-then (check (ltb (l .target + block-len h) (2 ^ 64)) (refusal 7 (l .target) (l .target) (block-len h))) (λ u.
-    check (leb 24 (block-len h)) (refusal 8 (l .target) (block-len h) 24)))
-    (ok tt))
+    cond (name-is-text len l) (check (ltb (l .target + block-len h) (2 ^ 64)) (refusal 7 (l .target) (l .target) (block-len h))) (ok tt))
 
 unfoldable pub name-ok : Kind → List ℕ → List Link → Out (Unit {0})
 name-ok k r ls = cond (is k CN) (name-check (length r) (name-link ls) (name-head r (name-link ls))) (ok tt)
