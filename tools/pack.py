@@ -4,10 +4,10 @@
   pack.py PACK AMENDED NAMES OUT
 
 PACK is what the oracle's `--pack` wrote for the recordings that NAMES lists, a name a line, and AMENDED what the amended oracle's did
-(tools/amend.py): its answer counts where the Rust panics on a channel's name with a block_len under 24; everywhere else both packs must
-be alike. All of recordings/ are taken, and of each
-family of other names (all that stands before the first digit) an even sample. A recording of deep.py with 513 data lists is added;
-the Rust has no such limit, so its refusal is document 01's. Of one with 512, deep_lists_512.mf4, the tables alone are kept.
+(tools/amend.py): its answer counts where the Rust panics on a channel's name with a block_len under 24; everywhere else both packs
+must be alike. All of recordings/ are taken, and of each family of other names (all that stands before the first digit) an even
+sample. A recording of deep.py with 513 data lists is added; the Rust has no such limit, so its refusal is document 01's. Of one with
+512, deep_lists_512.mf4, the tables alone are kept.
 
 The pack: for each recording 72 bytes, then its parts. First the ends of the parts as u32, counted from the first part on: recording,
 visited words, block words, link words, gap words, listing, tree, CLR bytes; a part that is not compared is empty. Then as u32 the

@@ -5,9 +5,9 @@
 
 FILE.. are recordings; without one, those of recordings/ whose modules crates/CRATE/proofs/Lib.antt lists. ANSWERS is the folder that
 the oracle's `--out` wrote for them (NAME.rows, and NAME.text and NAME.tree of an accepted one), AMENDED the one that the amended
-oracle's did (tools/amend.py): its answer counts where the Rust panics on a channel's name with a block_len under 24. The modules and Lib.antt go to
-crates/CRATE/proofs/. Each row is proved by computation, so a definition that answers otherwise is refused. The clear list, which the
-Rust has not, is drawn here from the rows by document 01's text, apart from the definition.
+oracle's did (tools/amend.py): its answer counts where the Rust panics on a channel's name with a block_len under 24. The modules and
+Lib.antt go to crates/CRATE/proofs/. Each row is proved by computation, so a definition that answers otherwise is refused. The clear
+list, which the Rust has not, is drawn here from the rows by document 01's text, apart from the definition.
 """
 import glob
 import os
