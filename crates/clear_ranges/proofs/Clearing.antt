@@ -27,11 +27,11 @@ use Rattle.tables.specs.Laid.{Printable}
 use Rattle.tables.specs.Rows.{held-rows, held-links}
 use Rattle.tables.proofs.Gapping.{listed, pushed-then}
 use Rattle.mdf4.proofs.Demand3.{pairs-in}
-use Rattle.clear_ranges.specs.Covers.{row-cover, link-cover, covers}
+use Rattle.scratch_rows.specs.Covers.{row-cover, link-cover, covers}
 use Rattle.clear_ranges.specs.Lists.{ClearMet}
 use Rattle.clear_ranges.specs.declared.Cleared.the-variants.{Bytes, Refused}
 use Rattle.blocks.specs.declared.error.MdfError.the-variants.{TableTooShort}
-use Rattle.clear_ranges.proofs.Covering.{Taken, covers-length, covers-inside, covers-taken}
+use Rattle.scratch_rows.proofs.Covering.{Taken, covers-length, covers-inside, covers-taken}
 use Rattle.clear_ranges.proofs.SortedRanges.{sorted-inside, sorted-all, sorted-ordered}
 
 -- What ranges leave

@@ -1,8 +1,4 @@
 -- Laws behind the functions' proofs, lowest first.
-pub mod Lengths
-pub mod NameCovers
-pub mod Filling
 pub mod Sweeping
 pub mod SortedRanges
-pub mod Covering
 pub mod Clearing

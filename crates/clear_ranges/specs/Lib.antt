@@ -1,3 +1,2 @@
--- What the clear list's functions answer and write. No file here holds a proof.
-pub mod Covers
+-- What the clear list answers. No file here holds a proof.
 pub mod Lists

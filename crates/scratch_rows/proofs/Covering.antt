@@ -19,8 +19,8 @@ use Rattle.mdf4.proofs.Good.{Inv, Readable}
 use Rattle.tables.specs.Laid.{Printable}
 use Rattle.tables.specs.Rows.{held-rows, held-links, row-at, table}
 use Rattle.tables.proofs.Words.{rows-more}
-use Rattle.clear_ranges.specs.Covers.{cover, row-cover, target-cover, link-cover, covers}
-use Rattle.clear_ranges.proofs.Lengths.{read-least}
+use Rattle.scratch_rows.specs.Covers.{cover, row-cover, target-cover, link-cover, covers}
+use Rattle.scratch_rows.proofs.Lengths.{read-least}
 use Rattle.mdf4.proofs.Lists.{concat-map-append, concat-map-snoc}
 
 -- sorting rows keeps what they give

@@ -1,10 +1,10 @@
--- `clear_ranges::read_len` meets its contract.
+-- `scratch_rows::read_len` meets its contract.
 use native.Mathlib.Omega.{arith}
 use mathlib.Core.Path.{sym}
-use Rattle.clear_ranges.proofs.Lengths.{len-id, len-hd, len-dg, len-cg, len-cn, len-si, len-tx, len-md, len-dl, len-others}
+use Rattle.scratch_rows.proofs.Lengths.{len-id, len-hd, len-dg, len-cg, len-cn, len-si, len-tx, len-md, len-dl, len-others}
 use borrow.Author.Needs.{needs}
-use Rattle.clear_ranges.proofs.read_len.Statement.{statement}
-use Rattle.clear_ranges.proofs.read_len.Tie as tie
+use Rattle.scratch_rows.proofs.read_len.Statement.{statement}
+use Rattle.scratch_rows.proofs.read_len.Tie as tie
 
 returns : tie.Need-returns
 returns c =

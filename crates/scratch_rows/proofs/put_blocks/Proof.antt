@@ -1,4 +1,4 @@
--- `clear_ranges::put_blocks` meets its contract. The invariant: the ranges of the rows before i are pushed.
+-- `scratch_rows::put_blocks` meets its contract. The invariant: the ranges of the rows before i are pushed.
 use Prim.Native.Nat.{_*_, _-_, _≤_}
 use mathlib.Core.Path.{_≡_, refl}
 use native.Mathlib.Omega.{arith}
@@ -6,11 +6,11 @@ use lib.ListN.{length}
 use Rattle.mdf4.specs.Bytes.{concat-map}
 use Rattle.tables.specs.Gaps.{Pushed}
 use Rattle.tables.specs.Rows.{held-rows}
-use Rattle.clear_ranges.specs.Covers.{row-cover}
-use Rattle.clear_ranges.proofs.Filling.{rows-none, row-turn, row-whole, at-end}
+use Rattle.scratch_rows.specs.Covers.{row-cover}
+use Rattle.scratch_rows.proofs.Filling.{rows-none, row-turn, row-whole, at-end}
 use borrow.Author.Needs.{needs}
-use Rattle.clear_ranges.proofs.put_blocks.Statement.{statement}
-use Rattle.clear_ranges.proofs.put_blocks.Tie as tie
+use Rattle.scratch_rows.proofs.put_blocks.Statement.{statement}
+use Rattle.scratch_rows.proofs.put_blocks.Tie as tie
 
 abbrev Inv-loop : tie.InvT-loop
 Inv-loop file blocks n scratch₀ count₀ i₀ scratch count i = (i ≤ n) × (count ≤ 2 * i) × (length scratch ≡ length scratch₀) × Pushed scratch₀ 0 (concat-map (row-cover file) (held-rows i blocks)) scratch count

@@ -1,11 +1,11 @@
--- `clear_ranges::put_block` meets its contract.
+-- `scratch_rows::put_block` meets its contract.
 use native.Mathlib.Omega.{arith}
-use Rattle.clear_ranges.proofs.Lengths.{len-cn}
+use Rattle.scratch_rows.proofs.Lengths.{len-cn}
 use Rattle.tables.proofs.Gapping.{pushed-then}
-use Rattle.clear_ranges.proofs.NameCovers.{cover-channel, cover-other}
+use Rattle.scratch_rows.proofs.NameCovers.{cover-channel, cover-other}
 use borrow.Author.Needs.{needs}
-use Rattle.clear_ranges.proofs.put_block.Statement.{statement}
-use Rattle.clear_ranges.proofs.put_block.Tie as tie
+use Rattle.scratch_rows.proofs.put_block.Statement.{statement}
+use Rattle.scratch_rows.proofs.put_block.Tie as tie
 
 read-u64-requires : tie.Need-read-u64-requires
 read-u64-requires c κs =

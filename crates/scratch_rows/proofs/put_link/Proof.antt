@@ -1,9 +1,9 @@
--- `clear_ranges::put_link` meets its contract.
+-- `scratch_rows::put_link` meets its contract.
 use native.Mathlib.Omega.{arith}
-use Rattle.clear_ranges.proofs.Filling.{pushed-no, target-null, target-far, target-in}
+use Rattle.scratch_rows.proofs.Filling.{pushed-no, target-null, target-far, target-in}
 use borrow.Author.Needs.{needs}
-use Rattle.clear_ranges.proofs.put_link.Statement.{statement}
-use Rattle.clear_ranges.proofs.put_link.Tie as tie
+use Rattle.scratch_rows.proofs.put_link.Statement.{statement}
+use Rattle.scratch_rows.proofs.put_link.Tie as tie
 
 returns : tie.Need-returns
 returns c =

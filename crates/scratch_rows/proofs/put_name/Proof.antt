@@ -1,11 +1,11 @@
--- `clear_ranges::put_name` meets its contract.
+-- `scratch_rows::put_name` meets its contract.
 use native.Mathlib.Omega.{arith}
 use mathlib.Core.Path.{_∙_, sym}
-use Rattle.clear_ranges.proofs.Filling.{pushed-no}
-use Rattle.clear_ranges.proofs.NameCovers.{name-null, name-far, name-other, name-fits, name-cut}
+use Rattle.scratch_rows.proofs.Filling.{pushed-no}
+use Rattle.scratch_rows.proofs.NameCovers.{name-null, name-far, name-other, name-fits, name-cut}
 use borrow.Author.Needs.{needs}
-use Rattle.clear_ranges.proofs.put_name.Statement.{statement}
-use Rattle.clear_ranges.proofs.put_name.Tie as tie
+use Rattle.scratch_rows.proofs.put_name.Statement.{statement}
+use Rattle.scratch_rows.proofs.put_name.Tie as tie
 
 returns : tie.Need-returns
 returns c =

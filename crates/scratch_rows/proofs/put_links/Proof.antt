@@ -1,4 +1,4 @@
--- `clear_ranges::put_links` meets its contract. The invariant: the ranges of the links before i are pushed.
+-- `scratch_rows::put_links` meets its contract. The invariant: the ranges of the links before i are pushed.
 use Prim.Native.Nat.{_+_, _-_, _≤_}
 use mathlib.Core.Path.{_≡_, refl}
 use native.Mathlib.Omega.{arith}
@@ -6,11 +6,11 @@ use lib.ListN.{length}
 use Rattle.mdf4.specs.Bytes.{concat-map}
 use Rattle.tables.specs.Gaps.{Pushed}
 use Rattle.tables.specs.Rows.{held-links}
-use Rattle.clear_ranges.specs.Covers.{link-cover}
-use Rattle.clear_ranges.proofs.Filling.{links-none, link-turn, at-end}
+use Rattle.scratch_rows.specs.Covers.{link-cover}
+use Rattle.scratch_rows.proofs.Filling.{links-none, link-turn, at-end}
 use borrow.Author.Needs.{needs}
-use Rattle.clear_ranges.proofs.put_links.Statement.{statement}
-use Rattle.clear_ranges.proofs.put_links.Tie as tie
+use Rattle.scratch_rows.proofs.put_links.Statement.{statement}
+use Rattle.scratch_rows.proofs.put_links.Tie as tie
 
 abbrev Inv-loop : tie.InvT-loop
 Inv-loop file links m scratch₀ start count₀ i₀ scratch count i = (i ≤ m) × (count ≤ start + i) × (length scratch ≡ length scratch₀) × Pushed scratch₀ start (concat-map (link-cover file) (held-links i links)) scratch count

@@ -1,10 +1,10 @@
--- `clear_ranges::list_len` meets its contract.
+-- `scratch_rows::list_len` meets its contract.
 use mathlib.Core.Path.{_∙_}
 use native.Mathlib.Omega.{arith}
-use Rattle.clear_ranges.proofs.Lengths.{list-least, list-one, list-many}
+use Rattle.scratch_rows.proofs.Lengths.{list-least, list-one, list-many}
 use borrow.Author.Needs.{needs}
-use Rattle.clear_ranges.proofs.list_len.Statement.{statement}
-use Rattle.clear_ranges.proofs.list_len.Tie as tie
+use Rattle.scratch_rows.proofs.list_len.Statement.{statement}
+use Rattle.scratch_rows.proofs.list_len.Tie as tie
 
 read-u64-requires : tie.Need-read-u64-requires
 read-u64-requires c κs =

@@ -18,7 +18,7 @@ use Rattle.tables.specs.Gaps.{Pushed}
 use Rattle.tables.specs.Rows.{kind-of, held-rows, held-links, row-at, link-at, table}
 use Rattle.tables.proofs.Gapping.{pushed-none, pushed-then}
 use Rattle.tables.proofs.Words.{row-is, link-is, rows-more, links-more}
-use Rattle.clear_ranges.specs.Covers.{cover, row-cover, target-cover, link-cover}
+use Rattle.scratch_rows.specs.Covers.{cover, row-cover, target-cover, link-cover}
 
 -- nothing of a block or link is pushed
 pub pushed-no : {ps : List Range} (t : List ℕ) (c : ℕ) → ps ≡ [] → Pushed t c ps t c

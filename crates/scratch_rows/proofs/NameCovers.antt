@@ -14,7 +14,7 @@ use Rattle.mdf4.specs.Reads.{name-ranges, named-ranges, links-at, listed-len}
 use Rattle.mdf4.proofs.Fields.{num-bytes, read-len-is}
 use Rattle.tables.specs.Rows.{kind-of}
 use Rattle.tables.proofs.Words.{by-number}
-use Rattle.clear_ranges.specs.Covers.{name-cover, cover}
+use Rattle.scratch_rows.specs.Covers.{name-cover, cover}
 
 module _ (r : List ℕ) (t : ℕ) where
   no-text : name-is-text (length r) (make-link r t) ≡ false → name-cover r t ≡ []
