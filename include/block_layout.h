@@ -63,8 +63,9 @@ void block_layout_c_tree(const uint8_t *data, size_t data_len,
                          uint64_t *answer, size_t answer_len);
 
 /*
- * The clear list, in `out`. `scratch` takes rows of 2 words, one for each listed block, for each nonzero link with four bytes inside
- * the recording and for each channel name that is read; it ends 0 always.
+ * The clear list, in `out`. `scratch` takes rows of 2 words: one for each listed block and for each channel name that is read, two for
+ * each link whose target is not 0, has a mark that starts with ## and 24 bytes inside the recording, and one for each other nonzero
+ * link with four bytes inside. Twice as many as block and link rows together suffice. It ends 0 always.
  */
 void block_layout_c_clear(const uint8_t *data, size_t data_len,
                           uint64_t *visited, size_t visited_len,

@@ -42,7 +42,7 @@ fn main() {
     let rows = data.len() / 24 + 1;
     let (mut v, mut b) = (vec![0u64; rows], vec![0u64; 12 * rows]);
     let (mut l, mut g) = (vec![0u64; 2 * (data.len() / 8)], vec![0u64; 2 * rows]);
-    let mut s = vec![0u64; 4 * rows + 2 * (data.len() / 8)];
+    let mut s = vec![0u64; 4 * rows + 4 * (data.len() / 8)];
     let whole = FileLayout::from_bytes(&data).expect("accepted");
     let mut o = vec![0u8; whole.to_text().len().max(whole.to_tree().len()).max(24 + 16 * rows)];
     let mut a = [0u64; 9];

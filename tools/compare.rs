@@ -5,17 +5,18 @@
 //!
 //! The oracle's program is part of this one (ORACLE_MAIN names a copy of its main.rs whose `main` is renamed), so the Rust runs here,
 //! unchanged. So is the amended oracle's (AMENDED_MAIN; see amend.py): where the Rust panics on a channel's name with a block_len under
-//! 24, what is expected is the amended Rust's answer, and everywhere else both must answer alike. All four entries are called: compared are all words of the tables, listing and tree byte for byte, or the refusal's four
-//! numbers and all lent memory zero. The Rust has no clear list: its bytes are drawn here from the Rust's rows by document 01's text,
-//! and zeroing its ranges must change neither the library's answers nor the Rust's. Of accepted recordings the lent lengths are varied:
-//! all just long enough, then each table a word short and the output a byte short (10 to 14). That is done for one damaged recording in
-//! eight; for the others with the scratch table only. All lent memory is filled with ones before each call, and so is one word or byte
-//! behind it, which must stay.
+//! 24, what is expected is the amended Rust's answer, and everywhere else both must answer alike. All four entries are called: compared
+//! are all words of the tables, listing and tree byte for byte, or the refusal's four numbers and all lent memory zero. The Rust has no
+//! clear list: its bytes are drawn here from the Rust's rows by the text of document 01 and of document 02's order 1, and zeroing its
+//! ranges must change neither the library's answers nor the Rust's. Of accepted recordings the lent lengths are varied: all just long
+//! enough, then each table a word short and the output a byte short (10 to 14). That is done for one damaged recording in eight; for the
+//! others with the scratch table only. All lent memory is filled with ones before each call, and so is one word or byte behind it, which
+//! must stay.
 //!
 //! Only recordings of at most 8,192 bytes are damaged, so that a million take minutes. Damaged are single bytes, the identification's
 //! fields, marks, block_len and links_nr, links, and the fields behind them; bytes are appended, linked blocks copied elsewhere, and
-//! recordings cut. Blocks are those that the Rust lists; where it refuses, those whose marks are found. What is made depends on SEED,
-//! the index and the recordings of NAMES, nothing else.
+//! recordings cut. Blocks are those that the Rust lists and those that their links lead to; where it refuses, those whose marks are
+//! found. What is made depends on SEED, the index and the recordings of NAMES, nothing else.
 //!
 //! Prints each recording that differs or whose answer by the Rust has no number, then counts. With --damage, such a recording is
 //! written beside the program as differs-SEED-INDEX.mf4, and the status is 1 if any differs: small recordings reach none of the
@@ -233,14 +234,14 @@ fn want(data: &[u8]) -> (Want, bool) {
 fn whole(data: &[u8], rows: Rows, text: String, tree: String) -> Whole {
     let mut marked = rows.blocks.clone();
     marked.iter_mut().for_each(|b| b[11] = 1);
-    let reads = reads(data, &rows);
+    let spared = spared(data, &rows);
     let last = |f: &dyn Fn(&[u64; 12]) -> bool| {
         let row = |v: &u64| rows.blocks.binary_search_by_key(v, |b| b[0]).is_ok_and(|k| f(&rows.blocks[k]));
         rows.visited.iter().copied().rfind(row).unwrap()
     };
     let places = [*rows.visited.last().unwrap(), last(&|_| true), last(&|b| b[7] > 0)];
-    let clear = clear_list(data, &rows.gaps, &reads);
-    Whole { places, clear, scratch_rows: reads.len(), marked, text, tree, rows }
+    let clear = clear_list(data, &rows.gaps, &spared);
+    Whole { places, clear, scratch_rows: spared.len(), marked, text, tree, rows }
 }
 
 /// The bytes of document 01's "Read, per listed block".
@@ -272,27 +273,39 @@ fn name_read(data: &[u8], target: u64) -> Option<[u64; 2]> {
     Some([target, target + if n <= left { n } else { 24 }])
 }
 
-/// Document 01's read ranges: one for each listed block, channel name read, and nonzero link with four bytes inside. So many rows the
-/// scratch table takes.
-fn reads(data: &[u8], rows: &Rows) -> Vec<[u64; 2]> {
-    let mut reads = Vec::new();
+/// Whether a link to the target leads to a block, listed or not (document 02, order 1).
+fn is_block(data: &[u8], target: u64) -> bool {
+    target != 0 && (data.len() as u64).checked_sub(target).is_some_and(|left| left >= 24) && data[target as usize..].starts_with(b"##")
+}
+
+/// What is never clear, a row of the scratch table each: document 01's read ranges, one for each listed block, channel name read, and
+/// nonzero link with four bytes inside; and where such a link's target has a mark that starts with ## and 24 bytes inside, the 24 bytes
+/// and the extent (document 02, order 1).
+fn spared(data: &[u8], rows: &Rows) -> Vec<[u64; 2]> {
+    let mut spared = Vec::new();
     for b in &rows.blocks {
-        reads.push([b[0], b[0] + own_bytes(data, b[0], b[4])]);
+        spared.push([b[0], b[0] + own_bytes(data, b[0], b[4])]);
         if b[4] == 5 {
-            reads.extend(name_read(data, rows.links[b[6] as usize + 2][0]));
+            spared.extend(name_read(data, rows.links[b[6] as usize + 2][0]));
         }
     }
     let targets = rows.links.iter().map(|l| l[0]);
-    let inside = targets.filter(|t| *t != 0 && *t <= data.len() as u64 - 4);
-    reads.extend(inside.map(|t| [t, t + 4]));
-    reads
+    for t in targets.filter(|t| *t != 0 && *t <= data.len() as u64 - 4) {
+        if is_block(data, t) {
+            let extent = u64_at(data, t + 8).min(data.len() as u64 - t);
+            spared.extend([[t, t + 24], [t, t + extent]]);
+        } else {
+            spared.push([t, t + 4]);
+        }
+    }
+    spared
 }
 
-/// The CLR bytes: the runs of bytes that lie in a gap and aren't read.
-fn clear_list(data: &[u8], gaps: &[[u64; 2]], reads: &[[u64; 2]]) -> Vec<u8> {
+/// The CLR bytes: the runs of bytes that lie in a gap and are in none of these ranges.
+fn clear_list(data: &[u8], gaps: &[[u64; 2]], spared: &[[u64; 2]]) -> Vec<u8> {
     let mut clear = vec![false; data.len()];
     gaps.iter().for_each(|g| clear[g[0] as usize..g[1] as usize].fill(true));
-    reads.iter().for_each(|r| clear[r[0] as usize..r[1] as usize].fill(false));
+    spared.iter().for_each(|r| clear[r[0] as usize..r[1] as usize].fill(false));
     let (mut ranges, mut at) = (Vec::new(), 0);
     for run in clear.chunk_by(|a, b| a == b) {
         let end = at + run.len() as u64;
@@ -367,7 +380,7 @@ fn links_at(data: &[u8], at: u64) -> u64 {
 fn plenty(entry: Entry, data: &[u8], out: usize) -> Lengths {
     let links = marks(data).map(|at| links_at(data, at)).sum::<u64>() as usize;
     let rows = links + 2;
-    let scratch = if entry == Entry::Clear { 2 * (rows + 2 * links) + 1 } else { 0 };
+    let scratch = if entry == Entry::Clear { 2 * (rows + 3 * links) + 1 } else { 0 };
     [rows, 12 * rows + 5, 2 * links + 1, 2 * rows + 3, scratch, if entry == Entry::Layout { 0 } else { out + 7 }]
 }
 
@@ -529,7 +542,7 @@ impl Base {
     fn new(name: &str, data: Vec<u8>) -> Base {
         let (answer, _) = want(&data);
         let blocks: Vec<[u64; 3]> = match &answer {
-            Want::Accepted(w) => w.rows.blocks.iter().filter(|b| b[4] != 1).map(|b| [b[0], b[1], b[7]]).collect(),
+            Want::Accepted(w) => w.rows.blocks.iter().filter(|b| b[4] != 1).map(|b| [b[0], b[1], b[7]]).chain(unlisted(&data, &w.rows)).collect(),
             _ => marks(&data).map(|at| [at, at.saturating_add(u64_at(&data, at + 8)), links_at(&data, at)]).collect(),
         };
         let links = blocks.iter().flat_map(|b| (0..b[2]).map(|i| b[0] + 24 + 8 * i)).filter(|at| at + 8 <= data.len() as u64).collect();
@@ -537,6 +550,13 @@ impl Base {
         let accepted = matches!(answer, Want::Accepted(_));
         Base { name: name.to_string(), accepted, blocks: blocks.iter().map(|b| [b[0], b[1]]).collect(), links, fields, data }
     }
+}
+
+/// The blocks that links lead to and that are not listed: offset, end, and no links.
+fn unlisted<'a>(data: &'a [u8], rows: &'a Rows) -> impl Iterator<Item = [u64; 3]> + 'a {
+    let targets: std::collections::BTreeSet<u64> = rows.links.iter().map(|l| l[0]).filter(|t| is_block(data, *t)).collect();
+    let others = targets.into_iter().filter(|t| rows.blocks.binary_search_by_key(t, |b| b[0]).is_err());
+    others.map(|t| [t, t.saturating_add(u64_at(data, t + 8)), 0])
 }
 
 fn behind(data: &[u8], block: u64) -> Vec<Field> {

@@ -13,7 +13,8 @@ The pack: for each recording 72 bytes, then its parts. First the ends of the par
 visited words, block words, link words, gap words, listing, tree, CLR bytes; a part that is not compared is empty. Then as u32 the
 rows that the clear list needs of its scratch table. Then as u64: 0, and the places at which refusals 10, 11 and 12 come where the
 table is one row short (0: no row to be short of); or the refusal's number, place, a and b. CLR bytes are drawn from the rows by
-document 01's text (tools/recorded.py), since the Rust has no clear list.
+the text of document 01 and of document 02's order 1 (tools/recorded.py), since the Rust has no clear
+list; those of tools/linked.py are held against what is worked out there by hand.
 """
 import collections
 import re
@@ -21,6 +22,7 @@ import struct
 import sys
 
 import deep
+import linked
 import recorded
 
 LARGEST = 16000
@@ -72,7 +74,7 @@ def refused(file, four):
     return record(file, [[], [], [], []], b"", b"", b"", 0, four)
 
 
-def accepted(file, w, text, tree):
+def accepted(name, file, w, text, tree):
     v, b, l, g = w[1:5]
     cut = [5, 5 + v, 5 + v + 12 * b, 5 + v + 12 * b + 2 * l, 5 + v + 12 * b + 2 * l + 2 * g]
     visited, blocks, links, gaps = [w[x:y] for x, y in zip(cut, cut[1:])]
@@ -82,9 +84,10 @@ def accepted(file, w, text, tree):
             blocks[k + 6] = 0    # the first link of a row without links is 0 (docs/DECISIONS.md)
         rows[blocks[k]] = blocks[k + 7]
     listed = [x for x in visited if x in rows]
-    linked = [x for x in listed if rows[x]]
+    showing = [x for x in listed if rows[x]]
     scratch, clear = recorded.clear_list(file, blocks, links, gaps)
-    places = [0, visited[-1], listed[-1], linked[-1] if linked else 0]
+    linked.check(name, file, scratch, clear)
+    places = [0, visited[-1], listed[-1], showing[-1] if showing else 0]
     return record(file, [visited, blocks, links, gaps], text, tree, clear, scratch, places)
 
 
@@ -114,7 +117,7 @@ def main():
             w = words(rows)
             count["amended"] += changed
             if w[0] == 0:
-                o.write(accepted(file, w, text, tree))
+                o.write(accepted(names[i].rsplit("/", 1)[-1].removesuffix(".mf4"), file, w, text, tree))
                 count["accepted"] += 1
                 count.update("kind %d" % k for k in set(w[5 + w[1] + 4:5 + w[1] + 12 * w[2]:12]))
             elif w[0] == 1:

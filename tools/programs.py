@@ -4,8 +4,8 @@
   programs.py ORACLE
 
 ORACLE is the oracle's program: listings and trees are the Rust's, cut off by document 01's limits of the listing program (a
-recording of 65,536 bytes at most, 8,192 words for each table, 65,536 bytes of output). CLR bytes are drawn by document 01's text
-(tools/recorded.py), and the refusals that the Rust has not are document 01's, worked out here.
+recording of 65,536 bytes at most, 8,192 words for each table, 65,536 bytes of output). CLR bytes are drawn by the text of document 01
+and of document 02's order 1 (tools/recorded.py), and the refusals that the Rust has not are document 01's, worked out here.
 """
 import os
 import struct

@@ -7,7 +7,8 @@ FILE.. are recordings; without one, those of recordings/ whose modules crates/CR
 the oracle's `--out` wrote for them (NAME.rows, and NAME.text and NAME.tree of an accepted one), AMENDED the one that the amended
 oracle's did (tools/amend.py): its answer counts where the Rust panics on a channel's name with a block_len under 24. The modules and
 Lib.antt go to crates/CRATE/proofs/. Each row is proved by computation, so a definition that answers otherwise is refused. The clear
-list, which the Rust has not, is drawn here from the rows by document 01's text, apart from the definition.
+list, which the Rust has not, is drawn here from the rows by the text of document 01 and of document 02's order 1, apart from the
+definition.
 """
 import glob
 import os
@@ -89,8 +90,8 @@ def num(r, a, n):
 
 
 def clear_list(r, blocks, links, gaps):
-    """Scratch rows and CLR bytes, from document 01's text."""
-    reads = []
+    """Scratch rows and CLR bytes, from the text of document 01 and of document 02's order 1."""
+    reads, kept = [], []
     for k in range(0, len(blocks), 12):
         off, kind, first = blocks[k], blocks[k + 4], blocks[k + 6]
         block_len, links_nr = num(r, off + 8, 8), num(r, off + 16, 8)
@@ -110,11 +111,16 @@ def clear_list(r, blocks, links, gaps):
             if found == 1 + num(b"##TX", 0, 4) and target + 24 <= len(r):
                 m = max(24, num(r, target + 8, 8))
                 reads.append((target, target + (m if target + m <= len(r) else 24)))
-    reads += [(t, t + 4) for t, f in zip(links[0::2], links[1::2]) if f]
+    for t, f in zip(links[0::2], links[1::2]):
+        if f and r[t:t + 2] == b"##" and t + 24 <= len(r):
+            reads.append((t, t + 24))
+            kept.append((t, t + num(r, t + 8, 8)))
+        elif f:
+            reads.append((t, t + 4))
     clear = bytearray(len(r))
     for a, z in zip(gaps[0::2], gaps[1::2]):
         clear[a:z] = b"\1" * (z - a)
-    for a, z in reads:
+    for a, z in reads + kept:
         z = min(z, len(r))
         clear[a:z] = bytes(z - a)
     ranges, i = [], 0
@@ -126,7 +132,7 @@ def clear_list(r, blocks, links, gaps):
             ranges.append((i, j))
         i = j + 1
     q = lambda x: struct.pack("<Q", x)
-    return len(reads), b"CLR\1\0\0\0\0" + q(len(r)) + q(len(ranges)) + b"".join(q(a) + q(z) for a, z in ranges)
+    return len(reads) + len(kept), b"CLR\1\0\0\0\0" + q(len(r)) + q(len(ranges)) + b"".join(q(a) + q(z) for a, z in ranges)
 
 
 def rows_of(base):

@@ -7,7 +7,7 @@ use borrow.Author.Tests.{le-leb, lt-leb}
 use Rattle.fmt.specs.Text.{Wrote}
 use Rattle.fmt.proofs.Room as Room
 use Rattle.mdf4.specs.Act.{Refusal, refusal, Out, ok, err, and-then, check}
-use Rattle.mdf4.specs.Reads.{read-ranges}
+use Rattle.mdf4.specs.Reads.{spared-ranges}
 use Rattle.mdf4.specs.Layout.{Layout}
 use Rattle.mdf4.specs.Clear.{clear-ranges, clr-bytes}
 use Rattle.mdf4.specs.Listing.{to-text}
@@ -121,7 +121,7 @@ module _ {x : Cleared} {out out' : List ℕ} {o : Out (List ℕ)} where
 -- the exits of `clear_list`
 module _ (n : Lent) (r : List ℕ) where
   abbrev clr : Layout → Out (List ℕ)
-  clr y = and-then (room (n .scratch / pair-words) (length (read-ranges r (y .state)))) (λ u. ok (clr-bytes (length r) (clear-ranges r y)))
+  clr y = and-then (room (n .scratch / pair-words) (length (spared-ranges r (y .state)))) (λ u. ok (clr-bytes (length r) (clear-ranges r y)))
 
   pub clear-laid-refused : (e : Refusal) → laid n r ≡ err e → clear-list-exit n r ≡ exit n (err e)
   unfolding clear-list-exit clear-list-made and-then
@@ -129,7 +129,7 @@ module _ (n : Lent) (r : List ℕ) where
 
   pub clear-refused : (y : Layout) (e : Refusal) → laid n r ≡ ok y → clr y ≡ err e → clear-list-exit n r ≡ exit n (err e)
   unfolding clear-list-exit clear-list-made and-then
-  clear-refused y e h k = rw h (ap (exit n) (go (room (n .scratch / pair-words) (length (read-ranges r (y .state)))) (clr-bytes (length r) (clear-ranges r y)) k))
+  clear-refused y e h k = rw h (ap (exit n) (go (room (n .scratch / pair-words) (length (spared-ranges r (y .state)))) (clr-bytes (length r) (clear-ranges r y)) k))
     where
       go : (m : Out (Unit {0})) (t : List ℕ) → and-then m (λ u. ok t) ≡ err e → and-then m (λ u. fitted (n .out) y [] t) ≡ err e
       go (ok u) t q = never q
@@ -137,7 +137,7 @@ module _ (n : Lent) (r : List ℕ) where
 
   pub clear-made : (y : Layout) (t : List ℕ) → laid n r ≡ ok y → clr y ≡ ok t → clear-list-exit n r ≡ exit n (fitted (n .out) y [] t)
   unfolding clear-list-exit clear-list-made and-then
-  clear-made y t h k = rw h (ap (exit n) (go (room (n .scratch / pair-words) (length (read-ranges r (y .state)))) (clr-bytes (length r) (clear-ranges r y)) k))
+  clear-made y t h k = rw h (ap (exit n) (go (room (n .scratch / pair-words) (length (spared-ranges r (y .state)))) (clr-bytes (length r) (clear-ranges r y)) k))
     where
       go : (m : Out (Unit {0})) (s : List ℕ) → and-then m (λ u. ok s) ≡ ok t → and-then m (λ u. fitted (n .out) y [] s) ≡ fitted (n .out) y [] t
       go (ok u) s q = let e : s ≡ t = cc in ap (fitted (n .out) y []) e

@@ -66,8 +66,10 @@ module _ (n : Lent) (r : List ℕ) (a : Answer) (v b l g s o : List ℕ) (c : Co
   pub clear-list-tables : left a v b l g s o ≡ clear-list-exit n r → Tables r (left a v b l g s o) c
   clear-list-tables = tables clear-list-exit (law.clear-list-tables n r c)
 
-  -- The clear list (`Cleared`). Its output is the CLR bytes of ranges; a byte is in one of them exactly when it lies in a gap and is not
-  -- read; and no list of ranges that holds the same bytes is shorter.
+  -- The clear list (`Cleared`). Its output is the CLR bytes of ranges; a byte is in one of them exactly when it lies in a gap and is
+  -- neither read nor kept; and no list of ranges that holds the same bytes is shorter. Document 02, order 1, of every row of the link
+  -- table: where its target is not 0, the mark there starts with ## and 24 bytes lie inside the file, these are read, and no byte up to
+  -- target + block_len is in a range.
   pub clear-list-cleared : left a v b l g s o ≡ clear-list-exit n r → Cleared n r (left a v b l g s o) c
   clear-list-cleared p =
       let e : clear-list-exit n r .answer ≡ ok c = ap (λ (x : Exit). x .answer) (sym p) ∙ answer-is a v b l g s o ∙ accepted in

@@ -10,7 +10,7 @@ use borrow.Author.Tests.{le-leb, lt-leb, le-ltb, ltb-true, ltb-false}
 use Rattle.fmt.specs.Text.{ascii, Wrote}
 use Rattle.mdf4.specs.Bytes.{Range, within, inside, count, concat-map}
 use Rattle.mdf4.specs.Act.{refusal, Out, ok, err, and-then, check, State}
-use Rattle.mdf4.specs.Reads.{read-ranges}
+use Rattle.mdf4.specs.Reads.{spared-ranges}
 use Rattle.mdf4.specs.Layout.{sort, extent, gap, compute-gaps, Layout, layout-of}
 use Rattle.mdf4.specs.Clear.{is-clear, none, close, le-bytes, range-bytes, clr-bytes, clear-ranges}
 use Rattle.mdf4.specs.Answers.{room}
@@ -76,32 +76,32 @@ gaps-apart len cursor lo (p ∷ ps) h a =
 -- The clear ranges
 
 module _ (r : List ℕ) (s : State) (v : Inv r s) where
-  clear-inside : (j : ℕ) → inside j (clear-ranges r (layout-of r s)) ≡ (ltb j (length r) && not (inside j (map extent (sort (s .rows))) || inside j (read-ranges r s)))
+  clear-inside : (j : ℕ) → inside j (clear-ranges r (layout-of r s)) ≡ (ltb j (length r) && not (inside j (map extent (sort (s .rows))) || inside j (spared-ranges r s)))
   unfolding clear-ranges close inside window is-clear layout-of
   clear-inside j =
       let y = layout-of r s in
       let z : 0 + length r ≡ length r = omega arith in
-      runs-inside (is-clear (y .gaps) (read-ranges r s)) none 0 (length r) j tt ∙ rw (le-leb 0 j (omega arith), z) (go (ltb j (length r)) refl)
+      runs-inside (is-clear (y .gaps) (spared-ranges r s)) none 0 (length r) j tt ∙ rw (le-leb 0 j (omega arith), z) (go (ltb j (length r)) refl)
     where
       morgan : (a b : Bool) → (not a && not b) ≡ not (a || b)
       morgan true b = refl
       morgan false b = refl
 
       go : (t : Bool) → ltb j (length r) ≡ t
-          → (t && (inside j (compute-gaps (length r) 0 (map extent (sort (s .rows)))) && not (inside j (read-ranges r s)))) ≡ (t && not (inside j (map extent (sort (s .rows))) || inside j (read-ranges r s)))
+          → (t && (inside j (compute-gaps (length r) 0 (map extent (sort (s .rows)))) && not (inside j (spared-ranges r s)))) ≡ (t && not (inside j (map extent (sort (s .rows))) || inside j (spared-ranges r s)))
       go true e =
           let q = inside-count j (compute-gaps (length r) 0 (map extent (sort (s .rows)))) (not (inside j (map extent (sort (s .rows)))))
           (gaps-of (length r) j (sort (s .rows)) (rising-sort (s .rows) (v .apart)) (tidy-sort (length r) (s .rows) (v .tidy)) (ltb-true j (length r) e)) in
-          rw q (morgan (inside j (map extent (sort (s .rows)))) (inside j (read-ranges r s)))
+          rw q (morgan (inside j (map extent (sort (s .rows)))) (inside j (spared-ranges r s)))
       go false e = refl
 
   clear-apart : Apart 0 (clear-ranges r (layout-of r s))
   unfolding clear-ranges
-  clear-apart = runs-apart (is-clear (layout-of r s .gaps) (read-ranges r (layout-of r s .state))) 0 none 0 (length r) (omega arith)
+  clear-apart = runs-apart (is-clear (layout-of r s .gaps) (spared-ranges r (layout-of r s .state))) 0 none 0 (length r) (omega arith)
 
   -- ranges in order that hold the bytes of the blocks and those read leave just the clear ones
   clear-is : (ps : List Range) → Ordered 0 ps → All (Taken (length r)) ps
-      → ((j : ℕ) → inside j ps ≡ (inside j (map extent (sort (s .rows))) || inside j (read-ranges r s)))
+      → ((j : ℕ) → inside j ps ≡ (inside j (map extent (sort (s .rows))) || inside j (spared-ranges r s)))
       → compute-gaps (length r) 0 ps ≡ clear-ranges r (layout-of r s)
   clear-is ps o a h =
       apart-unique 0 (compute-gaps (length r) 0 ps) (clear-ranges r (layout-of r s)) (gaps-apart (length r) 0 0 ps (omega arith) a) clear-apart
@@ -128,14 +128,14 @@ module _ (r b l : List ℕ) (n m : ℕ) {s s1 s2 : List ℕ} {c1 c : ℕ}
     unfolding layout-of
     sorted-are = sym e1 ∙ ap (λ (z : Layout). z .blocks) e3
 
-    needed : c ≡ length (read-ranges r (y .state))
+    needed : c ≡ length (spared-ranges r (y .state))
     needed = filled .count ∙ rw (sorted-are, ← e2) (covers-length r (y .state) v)
 
-    holds : (j : ℕ) → inside j (covers r (held-rows n b) (held-links m l)) ≡ (inside j (map extent (sort (y .state .rows))) || inside j (read-ranges r (y .state)))
+    holds : (j : ℕ) → inside j (covers r (held-rows n b) (held-links m l)) ≡ (inside j (map extent (sort (y .state .rows))) || inside j (spared-ranges r (y .state)))
     holds j = rw (sorted-are, ← e2) (covers-inside r (y .state) v j)
 
     abbrev answer : Out (List ℕ)
-    answer = and-then (room (length s / 2) (length (read-ranges r (y .state)))) (λ u. ok (clr-bytes (length r) (clear-ranges r y)))
+    answer = and-then (room (length s / 2) (length (spared-ranges r (y .state)))) (λ u. ok (clr-bytes (length r) (clear-ranges r y)))
 
     refused-at : length s / 2 < c → answer ≡ err (refusal 13 0 (length s / 2) c)
     unfolding room and-then check
@@ -156,11 +156,11 @@ module _ (r b l : List ℕ) (n m : ℕ) {s s1 s2 : List ℕ} {c1 c : ℕ}
         clear-is r (y .state) v (ranges-in 2 c s3) o a (λ j. sorted-inside c s2 s3 w j ∙ ap (inside j) t ∙ holds j) ∙ ap (clear-ranges r) (sym e3)
 
   pub refused : {out out' : List ℕ} → length s / 2 < c → (y : Layout) → y .blocks ≡ held-rows n b → y .state .links ≡ held-links m l → Inv r (y .state) → y ≡ layout-of r (y .state)
-      → ClearMet (Refused (TableTooShort (length s / 2) c)) out out' (and-then (room (length s / 2) (length (read-ranges r (y .state)))) (λ u. ok (clr-bytes (length r) (clear-ranges r y))))
+      → ClearMet (Refused (TableTooShort (length s / 2) c)) out out' (and-then (room (length s / 2) (length (spared-ranges r (y .state)))) (λ u. ok (clr-bytes (length r) (clear-ranges r y))))
   refused h y e1 e2 v e3 = record { says = refused-at y e1 e2 v e3 h }
 
   pub written : Printable r n b m l → c ≤ length s / 2 → {s3 : List ℕ} → Sorted 2 c s2 s3 → {out out' : List ℕ} {at : ℕ}
       → Wrote out 0 (clr-bytes (length r) (compute-gaps (length r) 0 (ranges-in 2 c s3))) out' at
       → (y : Layout) → y .blocks ≡ held-rows n b → y .state .links ≡ held-links m l → Inv r (y .state) → y ≡ layout-of r (y .state)
-      → ClearMet (Bytes at) out out' (and-then (room (length s / 2) (length (read-ranges r (y .state)))) (λ u. ok (clr-bytes (length r) (clear-ranges r y))))
+      → ClearMet (Bytes at) out out' (and-then (room (length s / 2) (length (spared-ranges r (y .state)))) (λ u. ok (clr-bytes (length r) (clear-ranges r y))))
   written p h w q y e1 e2 v e3 = record { says = (clr-bytes (length r) (clear-ranges r y), accepted-at y e1 e2 v e3 h, rw (clear-at y e1 e2 v e3 p h w) at q) }

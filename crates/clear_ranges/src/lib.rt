@@ -5,7 +5,7 @@ ghost use lib.ListN.{length};
 ghost use Rattle.fmt.specs.Text.{Wrote};
 ghost use Rattle.mdf4.specs.Bytes.{concat-map};
 ghost use Rattle.mdf4.specs.Act.{ok, and-then};
-ghost use Rattle.mdf4.specs.Reads.{read-ranges};
+ghost use Rattle.mdf4.specs.Reads.{spared-ranges};
 ghost use Rattle.mdf4.specs.Layout.{gap, compute-gaps, Layout, layout-of};
 ghost use Rattle.mdf4.specs.Clear.{le-bytes, range-bytes, clr-bytes, clear-ranges};
 ghost use Rattle.mdf4.specs.Answers.{pair-words, room};
@@ -131,7 +131,7 @@ pub fn put_clear_list(
     out: &mut [u8],
 ) -> Cleared
     requires { ⌜ Printable (now file) n (now blocks) m (now links) ⌝ }
-    ensures { λ r. ⌜ ((y : Layout) → y .blocks ≡ held-rows n (now (blocks .entry)) → y .state .links ≡ held-links m (now (links .entry)) → Inv (now (file .entry)) (y .state) → y ≡ layout-of (now (file .entry)) (y .state) → ClearMet r (now (out .entry)) (now (out .exit)) (and-then (room (length (now (scratch .entry)) / pair-words) (length (read-ranges (now (file .entry)) (y .state)))) (λ u. ok (clr-bytes (length (now (file .entry))) (clear-ranges (now (file .entry)) y))))) ⌝ }
+    ensures { λ r. ⌜ ((y : Layout) → y .blocks ≡ held-rows n (now (blocks .entry)) → y .state .links ≡ held-links m (now (links .entry)) → Inv (now (file .entry)) (y .state) → y ≡ layout-of (now (file .entry)) (y .state) → ClearMet r (now (out .entry)) (now (out .exit)) (and-then (room (length (now (scratch .entry)) / pair-words) (length (spared-ranges (now (file .entry)) (y .state)))) (λ u. ok (clr-bytes (length (now (file .entry))) (clear-ranges (now (file .entry)) y))))) ⌝ }
 {
     let lent = scratch.len() / PAIR_WORDS;
     let taken = put_blocks(file, blocks, n, scratch);

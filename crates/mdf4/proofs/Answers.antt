@@ -6,6 +6,7 @@ use mathlib.Core.List.{List, [], _∷_, _++_}
 use Prim.Native.Nat.{ℕ, _-_, _^_}
 use lib.ListN.{replicate, drop}
 use Rattle.fmt.specs.Text.{ascii}
+use Rattle.mdf4.specs.Bytes.{concat-map}
 use Rattle.mdf4.specs.Act.{ok, err, refusal, stopped, marked, DL, Row}
 use Rattle.mdf4.specs.Kinds.{make-link, no-records, cg-records}
 use Rattle.mdf4.specs.Version.{version}
@@ -78,8 +79,8 @@ one-channel name =
     ++ block (ascii "##CN") 160 8 (replicate 16 0 ++ le-bytes 8 496 ++ replicate 112 0)
     ++ name
 
--- a channel name is read: the clear list asks a scratch row for each of 6 blocks, for each of 4 links and for the name
-pub name-read : clear-list-exit (lent 6 72 48 0 20 24) (one-channel (block (ascii "##TX") 29 0 (ascii "speed"))) .answer ≡ err (refusal 13 0 10 11)
+-- a channel name is read: the clear list asks a scratch row for each of 6 blocks and for the name, and two for each of 4 links
+pub name-read : clear-list-exit (lent 6 72 48 0 28 24) (one-channel (block (ascii "##TX") 29 0 (ascii "speed"))) .answer ≡ err (refusal 13 0 14 15)
 unfolding computed identification header one-channel
 name-read = refl
 
@@ -129,11 +130,11 @@ pub short-name-gap : layout-exit (lent 6 72 48 2 0 0) (short-name 0) .gaps ≡ 4
 unfolding computed identification header one-channel short-block short-name
 short-name-gap = refl
 
-pub short-name-kept : clear-list-exit (lent 6 72 48 2 22 24) (short-name 0) .out ≡ ascii "CLR" ++ 1 ∷ 0 ∷ 0 ∷ 0 ∷ 0 ∷ 8 ∷ 2 ∷ replicate 14 0
+pub short-name-kept : clear-list-exit (lent 6 72 48 2 30 24) (short-name 0) .out ≡ ascii "CLR" ++ 1 ∷ 0 ∷ 0 ∷ 0 ∷ 0 ∷ 8 ∷ 2 ∷ replicate 14 0
 unfolding computed identification header one-channel short-block short-name
 short-name-kept = refl
 
-pub short-name-read : clear-list-exit (lent 6 72 48 2 20 24) (short-name 0) .answer ≡ err (refusal 13 0 10 11)
+pub short-name-read : clear-list-exit (lent 6 72 48 2 28 24) (short-name 0) .answer ≡ err (refusal 13 0 14 15)
 unfolding computed identification header one-channel short-block short-name
 short-name-read = refl
 
@@ -205,14 +206,85 @@ pub L-tail : clear-list-exit (lent 2 24 12 2 4 40) (L ++ 1 ∷ 2 ∷ 3 ∷ 4 ∷
 unfolding computed identification header L
 L-tail = refl
 
--- a linked block that the walk does not enter counts for its four bytes only
-unfoldable pub with-history : List ℕ
-with-history = identification ++ header (replicate 8 0 ++ le-bytes 8 168 ++ replicate 32 0) ++ block (ascii "##FH") 56 2 (replicate 32 0)
+-- Document 02, order 1: where a link leads to a mark that starts with ## and 24 bytes inside the file, these 24 are read and the extent
+-- is kept, a scratch row each. Here the header's file history link leads to 168, behind the last block. The bytes of a clear list of a
+-- file of len bytes, with n ranges:
+abbrev clr : ℕ → ℕ → List ℕ → List ℕ
+clr len n ends = ascii "CLR" ++ 1 ∷ 0 ∷ 0 ∷ 0 ∷ 0 ∷ len ∷ replicate 7 0 ++ n ∷ replicate 7 0 ++ concat-map (λ x. x ∷ replicate 7 0) ends
 
-pub history-mark-kept : clear-list-exit (lent 2 24 12 2 6 40) with-history .out
-    ≡ ascii "CLR" ++ 1 ∷ 0 ∷ 0 ∷ 0 ∷ 0 ∷ 224 ∷ replicate 7 0 ++ 1 ∷ replicate 7 0 ++ 172 ∷ replicate 7 0 ++ 224 ∷ replicate 7 0
+unfoldable pub with-history : List ℕ → List ℕ
+with-history behind = identification ++ header (replicate 8 0 ++ le-bytes 8 168 ++ replicate 32 0) ++ behind
+
+-- 56 bytes at 168 with the mark and the block_len given; no byte of it but those of its mark and its length is 0
+unfoldable pub history : List ℕ → ℕ → List ℕ
+history mark len = with-history (mark ++ replicate 4 7 ++ le-bytes 8 len ++ replicate 40 7)
+
+pub history-56 : clear-list-exit (lent 2 24 12 2 8 24) (history (ascii "##FH") 56) .out ≡ clr 224 0 []
+unfolding computed identification header with-history history
+history-56 = refl
+
+pub history-scratch : clear-list-exit (lent 2 24 12 2 7 24) (history (ascii "##FH") 56) .answer ≡ err (refusal 13 0 3 4)
+unfolding computed identification header with-history history
+history-scratch = refl
+
+-- what stands behind its extent is clear
+pub history-32 : clear-list-exit (lent 2 24 12 2 8 40) (history (ascii "##FH") 32) .out ≡ clr 224 1 (200 ∷ 224 ∷ [])
+unfolding computed identification header with-history history
+history-32 = refl
+
+-- an extent of 24 bytes, one shorter than the header, and an empty one, which takes its row
+pub history-24 : clear-list-exit (lent 2 24 12 2 8 40) (history (ascii "##FH") 24) .out ≡ clr 224 1 (192 ∷ 224 ∷ [])
+unfolding computed identification header with-history history
+history-24 = refl
+
+pub history-23 : clear-list-exit (lent 2 24 12 2 8 40) (history (ascii "##FH") 23) .out ≡ clr 224 1 (192 ∷ 224 ∷ [])
+unfolding computed identification header with-history history
+history-23 = refl
+
+pub history-0 : clear-list-exit (lent 2 24 12 2 8 40) (history (ascii "##FH") 0) .out ≡ clr 224 1 (192 ∷ 224 ∷ [])
+unfolding computed identification header with-history history
+history-0 = refl
+
+pub history-0-scratch : clear-list-exit (lent 2 24 12 2 7 40) (history (ascii "##FH") 0) .answer ≡ err (refusal 13 0 3 4)
+unfolding computed identification header with-history history
+history-0-scratch = refl
+
+-- an extent that passes the file's end is cut there, also where target + block_len passes 2^64
+pub history-57 : clear-list-exit (lent 2 24 12 2 8 24) (history (ascii "##FH") 57) .out ≡ clr 224 0 []
+unfolding computed identification header with-history history
+history-57 = refl
+
+pub history-past-u64 : clear-list-exit (lent 2 24 12 2 8 24) (history (ascii "##FH") (2 ^ 64 - 168)) .out ≡ clr 224 0 []
+unfolding computed identification header with-history history
+history-past-u64 = refl
+
+-- with 23 bytes left the four bytes count, as they do for another mark, and take one row; with 3 left nothing does
+pub history-23-left : clear-list-exit (lent 2 24 12 2 6 40) (with-history (ascii "##FH" ++ replicate 19 7)) .out ≡ clr 191 1 (172 ∷ 191 ∷ [])
 unfolding computed identification header with-history
-history-mark-kept = refl
+history-23-left = refl
+
+pub history-3-left : clear-list-exit (lent 2 24 12 2 4 40) (with-history (ascii "##F")) .out ≡ clr 171 1 (168 ∷ 171 ∷ [])
+unfolding computed identification header with-history
+history-3-left = refl
+
+pub one-number-sign : clear-list-exit (lent 2 24 12 2 6 40) (history (ascii "#-FH") 56) .out ≡ clr 224 1 (172 ∷ 224 ∷ [])
+unfolding computed identification header with-history history
+one-number-sign = refl
+
+pub second-number-sign : clear-list-exit (lent 2 24 12 2 6 40) (history (ascii "-#FH") 56) .out ≡ clr 224 1 (172 ∷ 224 ∷ [])
+unfolding computed identification header with-history history
+second-number-sign = refl
+
+pub last-number-signs : clear-list-exit (lent 2 24 12 2 6 40) (history (ascii "FH##") 56) .out ≡ clr 224 1 (172 ∷ 224 ∷ [])
+unfolding computed identification header with-history history
+last-number-signs = refl
+
+-- a row for each link, not for each target: the history and the attachment link both lead to 168
+pub two-links : clear-list-exit (lent 2 24 12 2 11 24)
+    (identification ++ header (replicate 8 0 ++ le-bytes 8 168 ++ replicate 8 0 ++ le-bytes 8 168 ++ replicate 16 0) ++ block (ascii "##FH") 24 0 []) .answer
+    ≡ err (refusal 13 0 5 6)
+unfolding computed identification header
+two-links = refl
 
 -- an empty block cuts the gap, and its header is read: a text at 200 with block_len 0
 unfoldable pub empty-text : List ℕ
@@ -222,7 +294,7 @@ pub empty-text-gaps : layout-exit (lent 3 36 12 4 0 0) empty-text .gaps ≡ 168 
 unfolding computed identification header empty-text
 empty-text-gaps = refl
 
-pub empty-text-clear : clear-list-exit (lent 3 36 12 4 8 56) empty-text .out
+pub empty-text-clear : clear-list-exit (lent 3 36 12 4 10 56) empty-text .out
     ≡ ascii "CLR" ++ 1 ∷ 0 ∷ 0 ∷ 0 ∷ 0 ∷ 4 ∷ 1 ∷ replicate 6 0 ++ 2 ∷ replicate 7 0
     ++ 168 ∷ replicate 7 0 ++ 200 ∷ replicate 7 0 ++ 224 ∷ replicate 7 0 ++ 4 ∷ 1 ∷ replicate 6 0
 unfolding computed identification header empty-text
@@ -234,7 +306,7 @@ overlapping =
     identification ++ header (le-bytes 8 200 ++ replicate 32 0 ++ le-bytes 8 176) ++ replicate 8 7 ++ block (ascii "##TX") 48 0 []
     ++ block (ascii "##DG") 64 4 (replicate 40 0) ++ replicate 6 7
 
-pub overlapping-clear : clear-list-exit (lent 4 48 20 4 12 56) overlapping .out
+pub overlapping-clear : clear-list-exit (lent 4 48 20 4 16 56) overlapping .out
     ≡ ascii "CLR" ++ 1 ∷ 0 ∷ 0 ∷ 0 ∷ 0 ∷ 14 ∷ 1 ∷ replicate 6 0 ++ 2 ∷ replicate 7 0
     ++ 168 ∷ replicate 7 0 ++ 176 ∷ replicate 7 0 ++ 8 ∷ 1 ∷ replicate 6 0 ++ 14 ∷ 1 ∷ replicate 6 0
 unfolding computed identification header overlapping
@@ -246,7 +318,7 @@ past-end =
     identification ++ header (le-bytes 8 168 ++ replicate 40 0) ++ block (ascii "##DG") 64 4 (replicate 16 0 ++ le-bytes 8 240 ++ replicate 16 0)
     ++ replicate 8 7 ++ block (ascii "##DT") 1000 0 [] ++ replicate 6 7
 
-pub past-end-clear : clear-list-exit (lent 4 48 20 2 12 40) past-end .out
+pub past-end-clear : clear-list-exit (lent 4 48 20 2 16 40) past-end .out
     ≡ ascii "CLR" ++ 1 ∷ 0 ∷ 0 ∷ 0 ∷ 0 ∷ 14 ∷ 1 ∷ replicate 6 0 ++ 1 ∷ replicate 7 0 ++ 232 ∷ replicate 7 0 ++ 240 ∷ replicate 7 0
 unfolding computed identification header past-end
 past-end-clear = refl

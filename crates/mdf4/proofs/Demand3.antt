@@ -1,22 +1,23 @@
 -- Demand 3 of the four entries: what specs/Demand3.antt states.
 use mathlib.Core.Path.{_≡_, refl, sym, ap, _∙_}
 use mathlib.Core.List.{List, [], _∷_, _++_, map}
-use Prim.Native.Nat.{ℕ, zero, suc, _-_, _/_, _<_}
+use Prim.Native.Nat.{ℕ, zero, suc, _/_, _<_}
 use native.Mathlib.Omega.{arith}
 use lib.ListN.{length, getD, take}
 use lib.Seq.{take-append-seam}
 use Rattle.mdf4.specs.Bytes.{concat-map, Range}
-use Rattle.mdf4.specs.Act.{Row, Out, ok, err}
-use Rattle.mdf4.specs.Reads.{read-ranges}
+use Rattle.mdf4.specs.Act.{Row, Link, Out, ok, err}
+use Rattle.mdf4.specs.Kinds.{null}
+use Rattle.mdf4.specs.Reads.{spared-ranges}
 use Rattle.mdf4.specs.Layout.{Layout, layout, extent}
 use Rattle.mdf4.specs.Clear.{clear-ranges, clr-bytes}
 use Rattle.mdf4.specs.Listing.{to-text}
 use Rattle.mdf4.specs.Tree.{to-tree}
-use Rattle.mdf4.specs.Answers.{Lent, Counts, Made, made, exit, laid, limits, fitted, room, counts, filled, layout-made, to-text-made, to-tree-made, clear-list-made, layout-exit, to-text-exit, to-tree-exit, clear-list-exit, row-words, range-words, block-row-words, pair-words}
-use Rattle.mdf4.specs.Demand3.{Again, Alike, Tables, Cleared, read, read-by, ranges-in, extents-in, gaps-in}
+use Rattle.mdf4.specs.Answers.{Lent, Counts, Made, made, exit, laid, limits, fitted, room, counts, filled, layout-made, to-text-made, to-tree-made, clear-list-made, layout-exit, to-text-exit, to-tree-exit, clear-list-exit, row-words, link-words, range-words, block-row-words, pair-words}
+use Rattle.mdf4.specs.Demand3.{Again, Alike, Tables, Cleared, Block, Spared, read, read-by, kept, kept-by, ranges-in, offsets, extents-in, gaps-in, targets-in}
 use Rattle.mdf4.proofs.Results.{never, and-then-ok, check-ok}
 use Rattle.mdf4.proofs.Reading.{Agree}
-use Rattle.mdf4.proofs.Laid.{ascending, partition, each-gap, gaps-add-up, clear-exactly, clear-apart, clear-fewest}
+use Rattle.mdf4.proofs.Laid.{ascending, partition, each-gap, gaps-add-up, clear-neither, block-header, block-not-clear, clear-apart, clear-fewest}
 use Rattle.mdf4.proofs.Order.{Above, Rising}
 use Rattle.mdf4.proofs.Texts.{layout-exit-again, to-text-exit-again, to-tree-exit-again, clear-list-exit-again}
 
@@ -70,7 +71,7 @@ module _ (n : Lent) (r : List ℕ) (c : Counts) where
   clear-list-accepted e =
       let x = exit-ok n (clear-list-made n r) c e in
       let q = and-then-ok (laid n r) _ (x .0) (x .1) in
-      let p = and-then-ok (room (n .scratch / pair-words) (length (read-ranges r (q .0 .state)))) _ (x .0) (q .2) in
+      let p = and-then-ok (room (n .scratch / pair-words) (length (spared-ranges r (q .0 .state)))) _ (x .0) (q .2) in
       let z = fitted-ok (n .out) (q .0) [] (clr-bytes (length r) (clear-ranges r (q .0))) (x .0) (p .2) in (
         record { y = q .0; printed = []; text = clr-bytes (length r) (clear-ranges r (q .0)); laid-is = q .1; made-is = x .1 ∙ ap ok (sym z); counted = ap counts z ∙ x .2 },
         refl,
@@ -106,6 +107,16 @@ unfolding ranges-in concat-map range-words
 pairs-in [] z = refl
 pairs-in (g ∷ gs) z = ap (λ (ps : List Range). g ∷ ps) (pairs-in gs z)
 
+pub links-in : (ls : List Link) (z : List ℕ) → offsets (ranges-in pair-words (length ls) (concat-map link-words ls ++ z)) ≡ map (λ (l : Link). l .target) ls
+unfolding offsets ranges-in concat-map link-words
+links-in [] z = refl
+links-in (l ∷ ls) z = ap (λ (ts : List ℕ). l .target ∷ ts) (links-in ls z)
+
+target-at : (ls : List Link) (j : ℕ) → getD (map (λ (l : Link). l .target) ls) j 0 ≡ getD ls j null .target
+target-at [] j = refl
+target-at (l ∷ ls) zero = refl
+target-at (l ∷ ls) (suc j) = target-at ls j
+
 above-at : (x : ℕ) (vs : List Row) (j : ℕ) → Above x vs → j < length vs → x < getD (map extent vs) j (0, 0) .0
 above-at x [] j a h = absurd (omega arith)
 above-at x (v ∷ vs) zero a h = a .0
@@ -137,6 +148,14 @@ module _ (n : Lent) (r : List ℕ) (m : Out Made) (c : Counts) (a : Accepted n r
   gaps-in-are : gaps-in (exit n m) c ≡ a .y .gaps
   unfolding gaps-in exit filled
   gaps-in-are = rw (a .made-is, gaps-are) (pairs-in (a .y .gaps) _)
+
+  links-are : c .links ≡ length (a .y .state .links)
+  unfolding counts
+  links-are = sym (ap (λ (k : Counts). k .links) (a .counted))
+
+  target-is : (j : ℕ) → getD (targets-in (exit n m) c) j 0 ≡ getD (a .y .state .links) j null .target
+  unfolding targets-in exit filled
+  target-is j = rw (a .made-is, links-are, links-in) (target-at (a .y .state .links) j)
 
   tables : Tables r (exit n m) c
   tables = record {
@@ -171,8 +190,16 @@ written n r m c a =
     let b : c .bytes ≡ length (a .text) = sym (ap (λ (k : Counts). k .bytes) (a .counted)) in
     ap (λ (k : ℕ). take k (exit n m .out)) b ∙ ap (λ (x : Out Made). take (length (a .text)) (exit n x .out)) (a .made-is) ∙ take-append-seam (a .text) _
 
+spared : (n : Lent) (r : List ℕ) (y : Layout) → laid n r ≡ ok y → layout (limits n) (n .gaps / pair-words) r ≡ ok y
+    → (j : ℕ) → j < length (y .state .links) → Block r (getD (y .state .links) j null .target) → Spared n r (clear-ranges r y) (getD (y .state .links) j null .target)
+unfolding read read-by
+spared n r y e h j l b = record {
+  header = λ i m u. rw e (block-header (limits n) (n .gaps / pair-words) r y h j l b i m u);
+  extent = λ i m u. block-not-clear (limits n) (n .gaps / pair-words) r y h j l b i m (omega arith);
+}
+
 pub cleared : (n : Lent) (r : List ℕ) (c : Counts) → clear-list-exit n r .answer ≡ ok c → Cleared n r (clear-list-exit n r) c
-unfolding clear-list-exit read read-by
+unfolding clear-list-exit read read-by kept kept-by
 cleared n r c e =
     let p = clear-list-accepted n r c (unfold clear-list-exit in e) in
     let a = p .0 in
@@ -180,7 +207,8 @@ cleared n r c e =
     record {
       ranges = clear-ranges r (a .y);
       written = written n r (clear-list-made n r) c a ∙ p .1;
-      exact = λ j. rw (gaps-in-are n r (clear-list-made n r) c a, a .laid-is) (clear-exactly (limits n) (n .gaps / pair-words) r (a .y) i j);
+      exact = λ j. rw (gaps-in-are n r (clear-list-made n r) c a, a .laid-is) (clear-neither (limits n) (n .gaps / pair-words) r (a .y) i j);
+      spares = λ j l. rw (target-is n r (clear-list-made n r) c a j) (spared n r (a .y) (a .laid-is) i j (rw (← links-are n r (clear-list-made n r) c a) l));
       apart = clear-apart (limits n) (n .gaps / pair-words) r (a .y) i;
       fewest = clear-fewest (limits n) (n .gaps / pair-words) r (a .y) i;
     }

@@ -1,28 +1,35 @@
 -- What holds of every accepted layout: it was walked, its offsets ascend, its gaps and clear ranges hold the right bytes, and a
 -- recording that agrees on its read bytes has the same.
 use mathlib.Core.Path.{_≡_, refl, sym, ap, _∙_}
-use mathlib.Core.Bool.{Bool, true, false, not, _||_, _&&_}
+use mathlib.Core.Bool.{Bool, true, false, not, _||_, _&&_, and-false}
 use mathlib.Core.List.{List, [], _∷_, map}
-use Prim.Native.Nat.{ℕ, _+_, _≤_, _<_}
+use Prim.Native.Nat.{ℕ, _+_, _≤_, _<_, max}
 use native.Mathlib.Omega.{arith}
 use lib.Dec.{leb, ltb, eqb}
 use lib.ListN.{length, getD}
 use borrow.Author.Tests.{ltb-true, ltb-false, eqb-true, lt-ltb, le-ltb, le-leb}
-use Rattle.mdf4.specs.Bytes.{Range, inside, bit, count}
+use Rattle.mdf4.specs.Bytes.{num, Range, inside, bit, count}
 use Rattle.mdf4.specs.Act.{ok, and-then, check, Row, State, Limits, elem, reason}
+use Rattle.mdf4.specs.Kinds.{null}
 use Rattle.mdf4.specs.Walk.{walk, start}
-use Rattle.mdf4.specs.Reads.{read-ranges}
+use Rattle.mdf4.specs.Reads.{read-ranges, kept-ranges, spared-ranges}
 use Rattle.mdf4.specs.Layout.{sort, extent, Layout, layout-of, layout}
 use Rattle.mdf4.specs.Clear.{is-clear, none, close, clear-ranges}
-use Rattle.mdf4.specs.Demand3.{sizes, tally, Apart, Gap, offsets}
+use Rattle.mdf4.specs.Demand3.{sizes, tally, Apart, Gap, Block, offsets}
 use Rattle.mdf4.proofs.Results.{and-then-ok, check-ok, reason-ok}
-use Rattle.mdf4.proofs.Walk.{walk-again, walk-inv, walk-id, read-ranges-again}
+use Rattle.mdf4.proofs.Walk.{walk-again, walk-inv, walk-id, spared-ranges-again}
+use Rattle.mdf4.proofs.Bytes.{inside-append}
 use Rattle.mdf4.proofs.Reading.{Agree}
 use Rattle.mdf4.proofs.Lists.{All, all-at}
 use Rattle.mdf4.proofs.Gaps.{gaps-of, gap-sizes, all-gaps, gaps-behind}
 use Rattle.mdf4.proofs.Good.{Inv, offs}
 use Rattle.mdf4.proofs.Order.{Rising, Above, elem-sort, rising-sort, tidy-sort}
 use Rattle.mdf4.proofs.Runs.{window, runs-inside, runs-apart, fewest}
+use Rattle.mdf4.proofs.Linked.{block-read, block-kept}
+
+not-or : (a b : Bool) → not (a || b) ≡ (not a && not b)
+not-or true b = refl
+not-or false b = refl
 
 above-not : (x : ℕ) (ws : List Row) → Above x ws → elem 0 (offs ws) ≡ true → ⊥
 unfolding elem
@@ -70,10 +77,13 @@ module _ (lim : Limits) (lent : ℕ) (r : List ℕ) (y : Layout) (e : layout lim
 
     pub clear-ranges-again : clear-ranges r' y ≡ clear-ranges r y
     unfolding clear-ranges
-    clear-ranges-again = rw (state-is, ← read-ranges-again lim r r' (walked .0) (walked .1) c', c .size)
+    clear-ranges-again = rw (state-is, ← spared-ranges-again lim r r' (walked .0) (walked .1) c', c .size)
 
   pub inv : Inv r (walked .0)
   inv = walk-inv lim r (walked .0) (walked .1)
+
+  state-inv : Inv r (y .state)
+  state-inv = rw state-is inv
 
   rows-rise : Rising (sort (walked .0 .rows))
   rows-rise = rising-sort (walked .0 .rows) (inv .apart)
@@ -115,20 +125,44 @@ module _ (lim : Limits) (lent : ℕ) (r : List ℕ) (y : Layout) (e : layout lim
   unfolding layout-of
   no-gap-behind i l = rw (walked .2) (gaps-behind (length r) i (sort (walked .0 .rows)) (tidy-sort (length r) (walked .0 .rows) (inv .tidy)) l)
 
-  -- a byte lies in a clear range exactly when it lies in a gap and is not read
-  pub clear-exactly : (i : ℕ) → inside i (clear-ranges r y) ≡ (inside i (y .gaps) && not (inside i (read-ranges r (y .state))))
+  -- a byte lies in a clear range exactly when it lies in a gap and in no range that is spared
+  clear-exactly : (i : ℕ) → inside i (clear-ranges r y) ≡ (inside i (y .gaps) && not (inside i (spared-ranges r (y .state))))
   unfolding clear-ranges close inside window is-clear
   clear-exactly i =
-      runs-inside (is-clear (y .gaps) (read-ranges r (y .state))) none 0 (length r) i tt ∙ rw (le-leb 0 i (omega arith)) (go (ltb i (length r)) refl)
+      runs-inside (is-clear (y .gaps) (spared-ranges r (y .state))) none 0 (length r) i tt ∙ rw (le-leb 0 i (omega arith)) (go (ltb i (length r)) refl)
     where
-      go : (t : Bool) → ltb i (length r) ≡ t → (ltb i (0 + length r) && is-clear (y .gaps) (read-ranges r (y .state)) i) ≡ is-clear (y .gaps) (read-ranges r (y .state)) i
+      go : (t : Bool) → ltb i (length r) ≡ t → (ltb i (0 + length r) && is-clear (y .gaps) (spared-ranges r (y .state)) i) ≡ is-clear (y .gaps) (spared-ranges r (y .state)) i
       go true e = rw (lt-ltb i (0 + length r) (omega (arith, ltb-true i (length r) e)))
       go false e = rw (le-ltb i (0 + length r) (omega (arith, ltb-false i (length r) e)), no-gap-behind i (ltb-false i (length r) e))
+
+  -- that is, when it is neither read nor kept
+  pub clear-neither : (i : ℕ) → inside i (clear-ranges r y) ≡ (inside i (y .gaps) && (not (inside i (read-ranges r (y .state))) && not (inside i (kept-ranges r (y .state)))))
+  unfolding spared-ranges
+  clear-neither i = clear-exactly i ∙ rw (inside-append, not-or)
+
+  -- document 02, order 1: the 24 bytes of a block that a link leads to are read, and neither they nor those of its extent are clear
+  module _ (j : ℕ) (l : j < length (y .state .links)) (b : Block r (getD (y .state .links) j null .target)) where
+    abbrev target : ℕ
+    target = getD (y .state .links) j null .target
+
+    pub block-header : (i : ℕ) → target ≤ i → i < target + 24 → inside i (read-ranges r (y .state)) ≡ true
+    block-header = block-read r (y .state) state-inv j l b
+
+    pub block-not-clear : (i : ℕ) → target ≤ i → i < target + max 24 (num r (target + 8) 8) → inside i (clear-ranges r y) ≡ false
+    block-not-clear i m u = clear-neither i ∙ go (ltb i (target + 24)) refl (ltb i (length r)) refl
+      where
+        go : (s : Bool) → ltb i (target + 24) ≡ s → (t : Bool) → ltb i (length r) ≡ t
+            → (inside i (y .gaps) && (not (inside i (read-ranges r (y .state))) && not (inside i (kept-ranges r (y .state))))) ≡ false
+        go true h t k = rw (block-header i m (ltb-true i (target + 24) h)) (and-false (inside i (y .gaps)))
+        go false h true k =
+            let z = ltb-false i (target + 24) h in
+            rw (block-kept r (y .state) state-inv j l b i m (omega (arith, u, z)) (ltb-true i (length r) k), and-false, and-false)
+        go false h false k = rw (no-gap-behind i (ltb-false i (length r) k))
 
   -- the clear ranges are nonempty, ascend and do not touch
   pub clear-apart : Apart 0 (clear-ranges r y)
   unfolding clear-ranges
-  clear-apart = runs-apart (is-clear (y .gaps) (read-ranges r (y .state))) 0 none 0 (length r) (omega arith)
+  clear-apart = runs-apart (is-clear (y .gaps) (spared-ranges r (y .state))) 0 none 0 (length r) (omega arith)
 
   -- and no list of ranges that holds the same bytes is shorter
   pub clear-fewest : (qs : List Range) → ((j : ℕ) → inside j (clear-ranges r y) ≡ inside j qs) → length (clear-ranges r y) ≤ length qs

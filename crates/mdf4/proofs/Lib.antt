@@ -9,8 +9,9 @@ pub mod Fuel
 pub mod Order
 pub mod Gaps
 pub mod Runs
-pub mod Laid
 pub mod Fields
+pub mod Linked
+pub mod Laid
 pub mod Texts
 pub mod ShortNames
 pub mod Tree

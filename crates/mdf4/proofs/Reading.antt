@@ -2,7 +2,7 @@
 use mathlib.Core.Path.{_≡_, refl, sym}
 use mathlib.Core.Bool.{cond, Bool, true, false, not, _||_, _&&_, or-true}
 use mathlib.Core.List.{List, [], _∷_, _++_, map, append-assoc, append-nil}
-use Prim.Native.Nat.{ℕ, _+_, _-_, _≤_, _<_, max}
+use Prim.Native.Nat.{ℕ, _+_, _-_, _≤_, _<_, min, max}
 use native.Mathlib.Omega.{arith}
 use lib.Dec.{leb, eqb}
 use lib.ListN.{length, getD}
@@ -11,7 +11,7 @@ use Rattle.mdf4.specs.Bytes.{bytes, num, Range, within, inside, concat-m
 use Rattle.mdf4.specs.Act.{Out, ok, Kind, ID, HD, DG, CG, CN, SI, TX, MD, DT, SD, DL, UT, UD, Row, Link, State}
 use Rattle.mdf4.specs.Kinds.{RecordLayout, read-len, read-block, read-of, make-link, name-link, name-ok, name-check, name-is-text, block-len, name-head, name-len, is, shape, data-at, rest}
 use Rattle.mdf4.specs.Walk.{row-of, push, after-reading}
-use Rattle.mdf4.specs.Reads.{link-ranges, named-ranges, name-ranges, links-at, ranges-at, row-ranges, read-ranges}
+use Rattle.mdf4.specs.Reads.{leads-to-block, link-ranges, link-extent, named-ranges, name-ranges, links-at, ranges-at, row-ranges, read-ranges, kept-ranges, spared-ranges}
 use Rattle.mdf4.proofs.Bytes.{inside-append, or-left, or-right, bytes-agree, concat-map-inside, concat-map-one}
 use Rattle.mdf4.proofs.Results.{and-then-ok, check-ok, ok-both}
 
@@ -41,23 +41,23 @@ within-in i a n h g ps = rw (le-leb a i h, lt-ltb i (a + n) g)
 -- a state's reads after a push: old ones, the row's, the links'
 module _ (r : List ℕ) (k : Kind) (w : Row) (ls : List Link) (s : State) (i : ℕ) where
   pub reads-push : inside i (read-ranges r (push k w ls s))
-      ≡ ((inside i (concat-map (row-ranges r) (s .rows)) || inside i (row-ranges r w)) || (inside i (concat-map link-ranges (s .links)) || inside i (concat-map link-ranges ls)))
+      ≡ ((inside i (concat-map (row-ranges r) (s .rows)) || inside i (row-ranges r w)) || (inside i (concat-map (link-ranges (length r)) (s .links)) || inside i (concat-map (link-ranges (length r)) ls)))
   unfolding read-ranges push
   reads-push =
       simp (inside-append, concat-map-inside, concat-map-one)
 
   pub old-reads : Reads r s i → Reads r (push k w ls s) i
   unfolding read-ranges
-  old-reads h = rw reads-push (go (inside i (concat-map (row-ranges r) (s .rows))) (inside i (concat-map link-ranges (s .links))) (rw inside-append at h))
+  old-reads h = rw reads-push (go (inside i (concat-map (row-ranges r) (s .rows))) (inside i (concat-map (link-ranges (length r)) (s .links))) (rw inside-append at h))
     where
-      go : (a b : Bool) → (a || b) ≡ true → ((a || inside i (row-ranges r w)) || (b || inside i (concat-map link-ranges ls))) ≡ true
+      go : (a b : Bool) → (a || b) ≡ true → ((a || inside i (row-ranges r w)) || (b || inside i (concat-map (link-ranges (length r)) ls))) ≡ true
       go true b e = refl
       go false b e = rw e (or-true (inside i (row-ranges r w)))
 
   pub row-read : inside i (row-ranges r w) ≡ true → Reads r (push k w ls s) i
   row-read h = rw (reads-push, h, or-true)
 
-  pub link-read : inside i (concat-map link-ranges ls) ≡ true → Reads r (push k w ls s) i
+  pub link-read : inside i (concat-map (link-ranges (length r)) ls) ≡ true → Reads r (push k w ls s) i
   link-read h = rw (reads-push, h) (simp or-true)
 
 -- Inversions
@@ -130,6 +130,19 @@ name-len-least len l h = go (leb (l .target + max 24 (block-len h)) len)
     go true = omega arith
     go false = omega arith
 
+-- what is read at a link's target: the mark, and of a block the header
+mark-read : (len : ℕ) (l : Link) (i : ℕ) → eqb (l .found) 0 ≡ false → l .target ≤ i → i < l .target + 4 → inside i (link-ranges len l) ≡ true
+unfolding link-ranges
+mark-read len l i e m u = go (leads-to-block len l)
+  where
+    go : (b : Bool) → inside i (cond b ((l .target, l .target + 24) ∷ []) (cond (eqb (l .found) 0) [] ((l .target, l .target + 4) ∷ []))) ≡ true
+    go true = within-in i (l .target) 24 m (omega arith) []
+    go false = rw e (within-in i (l .target) 4 m u [])
+
+pub header-read : (len : ℕ) (l : Link) (i : ℕ) → leads-to-block len l ≡ true → l .target ≤ i → i < l .target + 24 → inside i (link-ranges len l) ≡ true
+unfolding link-ranges
+header-read len l i e m u = rw e (within-in i (l .target) 24 m u [])
+
 module _ (r r' : List ℕ) (same : length r ≡ length r') where
   -- own bytes: the recordings agree on the span
   module _ (k : Kind) (a : ℕ) (f : (i : ℕ) → i < length r → a ≤ i → i < a + read-len k r a → getD r i 0 ≡ getD r' i 0) where
@@ -155,23 +168,43 @@ module _ (r r' : List ℕ) (same : length r ≡ length r') where
     unfolding read-block
     read-same = rw (← same, ← read-len-same, ← head-same, ← body-same, ← block-bytes-same)
 
-  -- a link: the recordings agree on the four bytes at its target
-  pub link-same : (t : ℕ) → ((i : ℕ) → i < length r → inside i (link-ranges (make-link r t)) ≡ true → getD r i 0 ≡ getD r' i 0) → make-link r t ≡ make-link r' t
-  unfolding make-link link-ranges num
+  -- a link: the recordings agree on what is read at its target
+  pub link-same : (t : ℕ) → ((i : ℕ) → i < length r → inside i (link-ranges (length r) (make-link r t)) ≡ true → getD r i 0 ≡ getD r' i 0) → make-link r t ≡ make-link r' t
+  unfolding make-link num
   link-same t f = rw (← same) (go (not (eqb t 0) && leb (t + 4) (length r)) f)
     where
-      go : (b : Bool) → ((i : ℕ) → i < length r → inside i (cond (eqb (cond b (1 + num r t 4) 0) 0) [] ((t, t + 4) ∷ [])) ≡ true → getD r i 0 ≡ getD r' i 0)
+      go : (b : Bool) → ((i : ℕ) → i < length r → inside i (link-ranges (length r) (record { target = t; found = cond b (1 + num r t 4) 0 })) ≡ true → getD r i 0 ≡ getD r' i 0)
           → _≡_ {A = Link} (record { target = t; found = cond b (1 + num r t 4) 0 }) (record { target = t; found = cond b (1 + num r' t 4) 0 })
-      go true g = rw (bytes-agree r r' t 4 same (λ i l m u. g i l (rw (ne-eqb (1 + num r t 4) 0 (λ z. omega arith)) (within-in i t 4 m u []))))
+      go true g = rw (bytes-agree r r' t 4 same (λ i l m u. g i l (mark-read (length r) _ i (ne-eqb (1 + num r t 4) 0 (λ z. omega arith)) m u)))
       go false g = refl
 
-  pub links-same : (ts : List ℕ) → ((i : ℕ) → i < length r → inside i (concat-map link-ranges (map (make-link r) ts)) ≡ true → getD r i 0 ≡ getD r' i 0)
+  -- the extent that it keeps
+  extent-same : (l : Link) → ((i : ℕ) → i < length r → inside i (link-ranges (length r) l) ≡ true → getD r i 0 ≡ getD r' i 0) → link-extent r l ≡ link-extent r' l
+  unfolding link-extent
+  extent-same l f = rw (← same) (go (leads-to-block (length r) l) refl)
+    where
+      go : (b : Bool) → leads-to-block (length r) l ≡ b
+          → cond {A = List Range} b ((l .target, min (l .target + block-len (bytes r (l .target) 24)) (length r)) ∷ []) []
+          ≡ cond b ((l .target, min (l .target + block-len (bytes r' (l .target) 24)) (length r)) ∷ []) []
+      go true e = rw (bytes-agree r r' (l .target) 24 same (λ i q m u. f i q (header-read (length r) l i e m u)))
+      go false e = refl
+
+  pub extents-same : (ls : List Link) → ((i : ℕ) → i < length r → inside i (concat-map (link-ranges (length r)) ls) ≡ true → getD r i 0 ≡ getD r' i 0)
+      → concat-map (link-extent r) ls ≡ concat-map (link-extent r') ls
+  unfolding concat-map
+  extents-same [] f = refl
+  extents-same (l ∷ ls) f =
+      let p = extent-same l (λ i q h. f i q (rw inside-append (or-left _ _ h))) in
+      let q = extents-same ls (λ i q h. f i q (rw inside-append (or-right (inside i (link-ranges (length r) l)) _ h))) in
+      rw (p, q)
+
+  pub links-same : (ts : List ℕ) → ((i : ℕ) → i < length r → inside i (concat-map (link-ranges (length r)) (map (make-link r) ts)) ≡ true → getD r i 0 ≡ getD r' i 0)
       → map (make-link r) ts ≡ map (make-link r') ts
   unfolding concat-map
   links-same [] f = refl
   links-same (t ∷ ts) f =
       let p = link-same t (λ i l h. f i l (rw inside-append (or-left _ _ h))) in
-      let q = links-same ts (λ i l h. f i l (rw inside-append (or-right (inside i (link-ranges (make-link r t))) _ h))) in
+      let q = links-same ts (λ i l h. f i l (rw inside-append (or-right (inside i (link-ranges (length r) (make-link r t))) _ h))) in
       rw (p, q)
 
   -- a name: the recordings agree on its bytes where it is a text
@@ -209,7 +242,7 @@ module _ (r r' : List ℕ) (same : length r ≡ length r') where
   -- the read bytes themselves are the same
   module _ (k : Kind) (a : ℕ)
       (f : (i : ℕ) → i < length r → inside i (ranges-at r k a) ≡ true → getD r i 0 ≡ getD r' i 0)
-      (g : (i : ℕ) → i < length r → inside i (concat-map link-ranges (links-at r k a)) ≡ true → getD r i 0 ≡ getD r' i 0) where
+      (g : (i : ℕ) → i < length r → inside i (concat-map (link-ranges (length r)) (links-at r k a)) ≡ true → getD r i 0 ≡ getD r' i 0) where
     pub own-agree : (i : ℕ) → i < length r → a ≤ i → i < a + read-len k r a → getD r i 0 ≡ getD r' i 0
     unfolding ranges-at
     own-agree i l m u = f i l (within-in i a (read-len k r a) m u _)
@@ -224,19 +257,31 @@ module _ (r r' : List ℕ) (same : length r ≡ length r') where
 
   rows-same : (ws : List Row)
       → ((i : ℕ) → i < length r → inside i (concat-map (row-ranges r) ws) ≡ true → getD r i 0 ≡ getD r' i 0)
-      → ((i : ℕ) → i < length r → inside i (concat-map link-ranges (row-links r ws)) ≡ true → getD r i 0 ≡ getD r' i 0)
+      → ((i : ℕ) → i < length r → inside i (concat-map (link-ranges (length r)) (row-links r ws)) ≡ true → getD r i 0 ≡ getD r' i 0)
       → concat-map (row-ranges r) ws ≡ concat-map (row-ranges r') ws
   unfolding concat-map row-links
   rows-same [] f g = refl
   rows-same (w ∷ ws) f g =
       let p = ranges-at-same (w .kind) (w .off) (λ i l h. f i l (rw inside-append (or-left _ _ h))) (λ i l h. g i l (rw concat-map-inside (or-left _ _ h))) in
       let q = rows-same ws (λ i l h. f i l (rw inside-append (or-right (inside i (row-ranges r w)) _ h)))
-      (λ i l h. g i l (rw concat-map-inside (or-right (inside i (concat-map link-ranges (links-at r (w .kind) (w .off)))) _ h))) in
+      (λ i l h. g i l (rw concat-map-inside (or-right (inside i (concat-map (link-ranges (length r)) (links-at r (w .kind) (w .off)))) _ h))) in
       rw (p, q)
 
 pub read-ranges-same : (r r' : List ℕ) (s : State) → s .links ≡ row-links r (s .rows) → Agree r r' s → read-ranges r s ≡ read-ranges r' s
 unfolding read-ranges
 read-ranges-same r r' s z c =
-    rw (rows-same r r' (c .size) (s .rows)
-    (λ i l h. c .at i l (rw inside-append (or-left _ _ h)))
-    (λ i l h. c .at i l (rw (inside-append, z) (or-right (inside i (concat-map (row-ranges r) (s .rows))) _ h))))
+    rw (
+      rows-same r r' (c .size) (s .rows)
+          (λ i l h. c .at i l (rw inside-append (or-left _ _ h)))
+          (λ i l h. c .at i l (rw (inside-append, z) (or-right (inside i (concat-map (row-ranges r) (s .rows))) _ h))),
+      c .size,
+    )
+
+pub kept-ranges-same : (r r' : List ℕ) (s : State) → Agree r r' s → kept-ranges r s ≡ kept-ranges r' s
+unfolding kept-ranges read-ranges
+kept-ranges-same r r' s c =
+    extents-same r r' (c .size) (s .links) (λ i l h. c .at i l (rw inside-append (or-right (inside i (concat-map (row-ranges r) (s .rows))) _ h)))
+
+pub spared-ranges-same : (r r' : List ℕ) (s : State) → s .links ≡ row-links r (s .rows) → Agree r r' s → spared-ranges r s ≡ spared-ranges r' s
+unfolding spared-ranges
+spared-ranges-same r r' s z c = rw (read-ranges-same r r' s z c, kept-ranges-same r r' s c)

@@ -9,7 +9,7 @@ use lib.ListN.{length, getD}
 use Rattle.mdf4.specs.Bytes.{bytes, within, inside, concat-map}
 use Rattle.mdf4.specs.Act.{Result, Out, ok, err, and-then, Kind, CN, Row, Link, State, elem}
 use Rattle.mdf4.specs.Kinds.{read-len, is, name-link, name-is-text, name-len, name-head}
-use Rattle.mdf4.specs.Reads.{name-ranges, named-ranges, link-ranges, links-at, ranges-at, row-ranges, read-ranges}
+use Rattle.mdf4.specs.Reads.{name-ranges, named-ranges, link-ranges, links-at, ranges-at, row-ranges, read-ranges, spared-ranges}
 use Rattle.mdf4.specs.Layout.{insert, sort, Layout, layout-of, layout}
 use Rattle.mdf4.specs.Clear.{clear-ranges}
 use Rattle.mdf4.specs.Describe.{name-bytes, block-bytes, row-name, describe, extra-line}
@@ -17,7 +17,7 @@ use Rattle.mdf4.specs.Listing.{row-lines, block-links, links-of, to-text
 use Rattle.mdf4.specs.Tree.{Edge, root, Child, child-at, child-of, children, Printed, render-children, node-line, node-by, render-tree-node, root-by, roots, to-tree, max-levels}
 use Rattle.mdf4.specs.Answers.{Lent, limits, laid, layout-made, to-text-made, to-tree-made, clear-list-made, layout-exit, to-text-exit, to-tree-exit, clear-list-exit, pair-words}
 use Rattle.mdf4.proofs.Bytes.{inside-append, or-left, or-right, bytes-agree, concat-map-inside}
-use Rattle.mdf4.proofs.Reading.{row-links, Agree, within-in, read-len-same, block-bytes-same, links-at-same, name-head-same, own-agree, read-ranges-same}
+use Rattle.mdf4.proofs.Reading.{row-links, Agree, within-in, read-len-same, block-bytes-same, links-at-same, name-head-same, own-agree, spared-ranges-same}
 use Rattle.mdf4.proofs.Lists.{All, all-append, all-map}
 use Rattle.mdf4.proofs.Laid.{accepts-again, clear-ranges-again, walked, inv, state-is}
 
@@ -53,7 +53,7 @@ module _ (r r' : List ℕ) (same : length r ≡ length r') where
 
   module _ (w : Row)
       (f : (i : ℕ) → i < length r → inside i (row-ranges r w) ≡ true → getD r i 0 ≡ getD r' i 0)
-      (g : (i : ℕ) → i < length r → inside i (concat-map link-ranges (links-at r (w .kind) (w .off))) ≡ true → getD r i 0 ≡ getD r' i 0) where
+      (g : (i : ℕ) → i < length r → inside i (concat-map (link-ranges (length r)) (links-at r (w .kind) (w .off))) ≡ true → getD r i 0 ≡ getD r' i 0) where
     own-again : block-bytes r w ≡ block-bytes r' w
     unfolding block-bytes
     own-again = rw (← read-len-same r r' same (w .kind) (w .off) (own-agree r r' same (w .kind) (w .off) f g)) (block-bytes-same r r' same (w .kind) (w .off) (own-agree r r' same (w .kind) (w .off) f g))
@@ -77,14 +77,14 @@ module _ (r r' : List ℕ) (same : length r ≡ length r') where
 
   pub all-told : (ws : List Row)
       → ((i : ℕ) → i < length r → inside i (concat-map (row-ranges r) ws) ≡ true → getD r i 0 ≡ getD r' i 0)
-      → ((i : ℕ) → i < length r → inside i (concat-map link-ranges (row-links r ws)) ≡ true → getD r i 0 ≡ getD r' i 0)
+      → ((i : ℕ) → i < length r → inside i (concat-map (link-ranges (length r)) (row-links r ws)) ≡ true → getD r i 0 ≡ getD r' i 0)
       → All (Told r r') ws
   unfolding concat-map row-links
   all-told [] f g = tt
   all-told (w ∷ ws) f g = (
     told w (λ i l h. f i l (rw inside-append (or-left _ _ h))) (λ i l h. g i l (rw concat-map-inside (or-left _ _ h))),
     all-told ws (λ i l h. f i l (rw inside-append (or-right (inside i (row-ranges r w)) _ h)))
-        (λ i l h. g i l (rw concat-map-inside (or-right (inside i (concat-map link-ranges (links-at r (w .kind) (w .off)))) _ h))),
+        (λ i l h. g i l (rw concat-map-inside (or-right (inside i (concat-map (link-ranges (length r)) (links-at r (w .kind) (w .off)))) _ h))),
   )
 
 pub state-told : (r r' : List ℕ) (s : State) → s .links ≡ row-links r (s .rows) → Agree r r' s → All (Told r r') (s .rows)
@@ -212,8 +212,8 @@ module _ (n : Lent) (r : List ℕ) (y : Layout) (e : laid n r ≡ ok y) (r' : Li
   pub clear-ranges-are : clear-ranges r' y ≡ clear-ranges r y
   clear-ranges-are = clear-ranges-again (limits n) (n .gaps / pair-words) r y laid-is r' c
 
-  pub read-ranges-again : read-ranges r' (y .state) ≡ read-ranges r (y .state)
-  read-ranges-again = sym (read-ranges-same r r' (y .state) table c)
+  pub spared-ranges-again : spared-ranges r' (y .state) ≡ spared-ranges r (y .state)
+  spared-ranges-again = sym (spared-ranges-same r r' (y .state) table c)
 
   pub layout-exit-again : layout-exit n r' ≡ layout-exit n r
   unfolding layout-exit layout-made
@@ -229,4 +229,4 @@ module _ (n : Lent) (r : List ℕ) (y : Layout) (e : laid n r ≡ ok y) (r' : Li
 
   pub clear-list-exit-again : clear-list-exit n r' ≡ clear-list-exit n r
   unfolding clear-list-exit clear-list-made and-then
-  clear-list-exit-again = rw (again, e, clear-ranges-are, read-ranges-again, c .size)
+  clear-list-exit-again = rw (again, e, clear-ranges-are, spared-ranges-again, c .size)

@@ -6,7 +6,7 @@ use lib.ListN.{length, replicate}
 use Rattle.mdf4.specs.Bytes.{Range, bit, concat-map}
 use Rattle.mdf4.specs.Act.{refusal, Out, ok, err, and-then, check, Row, Link, Limits, elem}
 use Rattle.mdf4.specs.Kinds.{shape, u64-max}
-use Rattle.mdf4.specs.Reads.{read-ranges}
+use Rattle.mdf4.specs.Reads.{spared-ranges}
 use Rattle.mdf4.specs.Layout.{Layout, layout}
 use Rattle.mdf4.specs.Clear.{clear-ranges, clr-bytes}
 use Rattle.mdf4.specs.Listing.{to-text}
@@ -109,7 +109,7 @@ exit n (err e) = record {
 unfoldable pub laid : Lent → List ℕ → Out Layout
 laid n r = layout (limits n) (n .gaps / pair-words) r
 
--- refusal 13 of the scratch table: a row for each read range
+-- refusal 13 of the scratch table: a row for each range that is read or kept
 unfoldable pub room : ℕ → ℕ → Out (Unit {0})
 room n k = check (leb k n) (refusal 13 0 n k)
 
@@ -129,7 +129,7 @@ to-tree-made n r = and-then (laid n r) (λ y. and-then (to-tree r y) (λ p. fitt
 
 unfoldable pub clear-list-made : Lent → List ℕ → Out Made
 clear-list-made n r = and-then (laid n r) (λ y.
-    and-then (room (n .scratch / pair-words) (length (read-ranges r (y .state)))) (λ u. fitted (n .out) y [] (clr-bytes (length r) (clear-ranges r y))))
+    and-then (room (n .scratch / pair-words) (length (spared-ranges r (y .state)))) (λ u. fitted (n .out) y [] (clr-bytes (length r) (clear-ranges r y))))
 
 unfoldable pub layout-exit : Lent → List ℕ → Exit
 layout-exit n r = exit n (layout-made n r)

@@ -5,12 +5,12 @@ use Prim.Native.Nat.{ℕ, zero, suc, _/_, _%_}
 use lib.ListN.{length}
 use Rattle.fmt.specs.Text.{ascii}
 use Rattle.mdf4.specs.Bytes.{Range, inside, concat-map}
-use Rattle.mdf4.specs.Reads.{read-ranges}
+use Rattle.mdf4.specs.Reads.{spared-ranges}
 use Rattle.mdf4.specs.Layout.{Layout}
 
--- document 01's clear byte: it lies in a gap and is not read
+-- a clear byte lies in a gap and is neither read nor kept (document 01, and order 1 of document 02)
 unfoldable pub is-clear : List Range → List Range → ℕ → Bool
-is-clear gaps reads i = inside i gaps && not (inside i reads)
+is-clear gaps spared i = inside i gaps && not (inside i spared)
 
 -- the longest runs at which the test holds, over the n bytes from i on. Of an open run, `from` has its first byte.
 pub data Run : Type 0 where
@@ -31,7 +31,7 @@ runs f u i (suc n) = elim (f i) [ true ↦ runs f (open-at u i) (suc i) n | fals
 
 -- the clear ranges of an accepted recording
 unfoldable pub clear-ranges : List ℕ → Layout → List Range
-clear-ranges r y = runs (is-clear (y .gaps) (read-ranges r (y .state))) none 0 (length r)
+clear-ranges r y = runs (is-clear (y .gaps) (spared-ranges r (y .state))) none 0 (length r)
 
 -- the n little-endian bytes of a number
 unfoldable pub le-bytes : ℕ → ℕ → List ℕ

@@ -6,9 +6,9 @@ use mathlib.Core.List.{List, [], _∷_, map}
 use mathlib.Core.Logic.{_⊎_}
 use Prim.Native.Nat.{ℕ, zero, suc, _+_, _-_, _≤_, _<_}
 use lib.ListN.{length, getD, take, drop}
-use Rattle.mdf4.specs.Bytes.{Range, inside, bit, count}
+use Rattle.mdf4.specs.Bytes.{num, Range, inside, bit, count}
 use Rattle.mdf4.specs.Act.{Out, ok, err, elem}
-use Rattle.mdf4.specs.Reads.{read-ranges}
+use Rattle.mdf4.specs.Reads.{read-ranges, kept-ranges}
 use Rattle.mdf4.specs.Layout.{Layout}
 use Rattle.mdf4.specs.Clear.{clr-bytes}
 use Rattle.mdf4.specs.Answers.{Lent, Counts, Exit, laid, block-row-words, pair-words}
@@ -20,6 +20,14 @@ read-by r (err e) = []
 
 unfoldable pub read : Lent → List ℕ → List Range
 read n r = read-by r (laid n r)
+
+-- its extents that are kept (document 02, order 1)
+unfoldable pub kept-by : List ℕ → Out Layout → List Range
+kept-by r (ok y) = kept-ranges r (y .state)
+kept-by r (err e) = []
+
+unfoldable pub kept : Lent → List ℕ → List Range
+kept n r = kept-by r (laid n r)
 
 -- two recordings of one length agree on the read bytes of the first
 pub record Alike (n : Lent) (r r' : List ℕ) : Type 0 where
@@ -45,6 +53,10 @@ gaps-in e c = ranges-in pair-words (c .gaps) (e .gaps)
 
 unfoldable pub offsets : List Range → List ℕ
 offsets ps = map (λ (p : Range). p .0) ps
+
+-- the targets of the links, the first word of each row of the link table
+unfoldable pub targets-in : Exit → Counts → List ℕ
+targets-in e c = offsets (ranges-in pair-words (c .links) (e .links))
 
 -- the sum of f over the bytes below n, and the sum of the ranges' sizes
 unfoldable pub tally : (ℕ → ℕ) → ℕ → ℕ
@@ -74,11 +86,25 @@ abbrev pub Apart : ℕ → List Range → Type 0
 Apart lo [] = Unit {0}
 Apart lo (p ∷ ps) = (lo ≤ p .0) × (p .0 < p .1) × Apart (suc (p .1)) ps
 
--- The output of an accepted clear list: the CLR bytes of ranges that hold exactly the bytes that lie in a gap and are not read,
--- and no list of ranges that holds the same bytes is shorter.
+-- document 02's order 1, of the recording alone: a link's target that is not 0, with a mark that starts with ## and 24 bytes inside the
+-- file
+pub record Block (r : List ℕ) (t : ℕ) : Type 0 where
+  pub some : t ≡ 0 → ⊥
+  pub whole : t + 24 ≤ length r
+  pub first : getD r t 0 ≡ 0x23
+  pub second : getD r (t + 1) 0 ≡ 0x23
+
+-- then these 24 bytes are read, and no byte of its extent is in a range
+pub record Spared (n : Lent) (r : List ℕ) (ranges : List Range) (t : ℕ) : Type 0 where
+  pub header : (i : ℕ) → t ≤ i → i < t + 24 → inside i (read n r) ≡ true
+  pub extent : (i : ℕ) → t ≤ i → i < t + num r (t + 8) 8 → inside i ranges ≡ false
+
+-- The output of an accepted clear list: the CLR bytes of ranges that hold exactly the bytes that lie in a gap and are neither read
+-- nor kept; every block that a link leads to is spared; and no list of ranges that holds the same bytes is shorter.
 pub record Cleared (n : Lent) (r : List ℕ) (e : Exit) (c : Counts) : Type 0 where
   pub ranges : List Range
   pub written : take (c .bytes) (e .out) ≡ clr-bytes (length r) ranges
-  pub exact : (i : ℕ) → inside i ranges ≡ (inside i (gaps-in e c) && not (inside i (read n r)))
+  pub exact : (i : ℕ) → inside i ranges ≡ (inside i (gaps-in e c) && (not (inside i (read n r)) && not (inside i (kept n r))))
+  pub spares : (j : ℕ) → j < c .links → Block r (getD (targets-in e c) j 0) → Spared n r ranges (getD (targets-in e c) j 0)
   pub apart : Apart 0 ranges
   pub fewest : (qs : List Range) → ((j : ℕ) → inside j ranges ≡ inside j qs) → length ranges ≤ length qs

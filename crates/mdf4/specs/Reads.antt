@@ -1,17 +1,29 @@
--- Document 01's read bytes, of a recording and the state of its walk: ranges, one for each row, one for each channel name that
--- is read, one for each link with four bytes inside the file.
-use mathlib.Core.Bool.{cond}
+-- Document 01's read bytes with document 02's order 1, of a recording and the state of its walk: ranges, one for each row, one for
+-- each channel name that is read, one for each link with four bytes inside the file. Besides these the extents that order 1 keeps,
+-- one for each link that leads to a block.
+use mathlib.Core.Bool.{Bool, cond, _&&_}
 use mathlib.Core.List.{List, [], _∷_, _++_, map}
-use Prim.Native.Nat.{ℕ, _+_, _*_, _%_, max}
-use lib.Dec.{eqb}
+use Prim.Native.Nat.{ℕ, _+_, _-_, _*_, _%_, min, max}
+use lib.Dec.{leb, eqb}
 use lib.ListN.{length}
 use Rattle.mdf4.specs.Bytes.{bytes, num, Range, concat-map}
 use Rattle.mdf4.specs.Act.{Kind, ID, HD, DG, CG, CN, SI, TX, MD, DT, SD, DL, UT, UD, Row, Link, State}
-use Rattle.mdf4.specs.Kinds.{shape, is, read-len, make-link, name-link, name-is-text, name-head, name-len}
+use Rattle.mdf4.specs.Kinds.{shape, is, mark-of, block-len, read-len, make-link, name-link, name-is-text, name-head, name-len}
 
--- four bytes at the target, where they lie inside the file
-unfoldable pub link-ranges : Link → List Range
-link-ranges l = cond (eqb (l .found) 0) [] ((l .target, l .target + 4) ∷ [])
+-- whether a link leads to a block, listed or not (document 02, order 1): the mark found starts with ##, and 24 bytes lie inside the
+-- file
+unfoldable pub leads-to-block : ℕ → Link → Bool
+leads-to-block len l = eqb ((l .found - 1) % 65536) (mark-of "##") && leb (l .target + 24) len
+
+-- what is read at the target: a block's 24 bytes, else four where they lie inside the file
+unfoldable pub link-ranges : ℕ → Link → List Range
+link-ranges len l =
+    cond (leads-to-block len l) ((l .target, l .target + 24) ∷ []) (cond (eqb (l .found) 0) [] ((l .target, l .target + 4) ∷ []))
+
+-- the extent of a linked block, target to target + block_len, cut at the file's end: it is not read but kept (document 02, order 1)
+unfoldable pub link-extent : List ℕ → Link → List Range
+link-extent r l =
+    cond (leads-to-block (length r) l) ((l .target, min (l .target + block-len (bytes r (l .target) 24)) (length r)) ∷ []) []
 
 -- the name's bytes, of its link and the header at its target
 unfoldable pub name-ranges : ℕ → Link → List ℕ → List Range
@@ -32,7 +44,14 @@ abbrev pub row-ranges : List ℕ → Row → List Range
 row-ranges r w = ranges-at r (w .kind) (w .off)
 
 unfoldable pub read-ranges : List ℕ → State → List Range
-read-ranges r s = concat-map (row-ranges r) (s .rows) ++ concat-map link-ranges (s .links)
+read-ranges r s = concat-map (row-ranges r) (s .rows) ++ concat-map (link-ranges (length r)) (s .links)
+
+unfoldable pub kept-ranges : List ℕ → State → List Range
+kept-ranges r s = concat-map (link-extent r) (s .links)
+
+-- what is never clear: a scratch row for each of these ranges
+unfoldable pub spared-ranges : List ℕ → State → List Range
+spared-ranges r s = read-ranges r s ++ kept-ranges r s
 
 -- Document 01's list of read bytes per block, as it stands there, over the recording itself. `read-len` is that list
 -- (proofs/Fields.antt, `read-len-is`).

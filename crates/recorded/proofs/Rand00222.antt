@@ -144,14 +144,14 @@ text : to-text-exit (lent 12 144 86 0 0 4878) recording
 unfolding computed recording visited links gaps blocks
 text = refl
 
-clear : clear-list-exit (lent 12 144 86 0 54 24) recording
+clear : clear-list-exit (lent 12 144 86 0 74 24) recording
     ≡ record {
       answer = ok (counts 12 12 43 0 24);
       visited = visited;
       blocks = blocks;
       links = links;
       gaps = gaps;
-      scratch = replicate 54 0;
+      scratch = replicate 74 0;
       out =
           67 ∷ 76 ∷ 82 ∷ 1 ∷ 0 ∷ 0 ∷ 0 ∷ 0 ∷ 64 ∷ 4 ∷ 0 ∷ 0 ∷ 0 ∷ 0 ∷ 0 ∷ 0 ∷ 0 ∷ 0 ∷ 0 ∷ 0 ∷ 0 ∷ 0 ∷ 0 ∷ 0 ∷ [];
     }

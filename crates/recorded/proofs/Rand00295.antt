@@ -104,14 +104,14 @@ text : to-text-exit (lent 7 84 34 0 0 2548) recording
 unfolding computed recording visited links gaps blocks
 text = refl
 
-clear : clear-list-exit (lent 7 84 34 0 28 24) recording
+clear : clear-list-exit (lent 7 84 34 0 40 24) recording
     ≡ record {
       answer = ok (counts 7 7 17 0 24);
       visited = visited;
       blocks = blocks;
       links = links;
       gaps = gaps;
-      scratch = replicate 28 0;
+      scratch = replicate 40 0;
       out =
           67 ∷ 76 ∷ 82 ∷ 1 ∷ 0 ∷ 0 ∷ 0 ∷ 0 ∷ 96 ∷ 2 ∷ 0 ∷ 0 ∷ 0 ∷ 0 ∷ 0 ∷ 0 ∷ 0 ∷ 0 ∷ 0 ∷ 0 ∷ 0 ∷ 0 ∷ 0 ∷ 0 ∷ [];
     }

@@ -92,14 +92,14 @@ text : to-text-exit (lent 6 72 40 0 0 2383) recording
 unfolding computed recording visited links gaps blocks
 text = refl
 
-clear : clear-list-exit (lent 6 72 40 0 22 24) recording
+clear : clear-list-exit (lent 6 72 40 0 32 24) recording
     ≡ record {
       answer = ok (counts 6 6 20 0 24);
       visited = visited;
       blocks = blocks;
       links = links;
       gaps = gaps;
-      scratch = replicate 22 0;
+      scratch = replicate 32 0;
       out =
           67 ∷ 76 ∷ 82 ∷ 1 ∷ 0 ∷ 0 ∷ 0 ∷ 0 ∷ 176 ∷ 1 ∷ 0 ∷ 0 ∷ 0 ∷ 0 ∷ 0 ∷ 0 ∷ 0 ∷ 0 ∷ 0 ∷ 0 ∷ 0 ∷ 0 ∷ 0 ∷ 0 ∷ [];
     }

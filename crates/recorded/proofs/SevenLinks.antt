@@ -177,14 +177,14 @@ text : to-text-exit (lent 21 252 94 14 0 6597) recording
 unfolding computed recording visited links gaps blocks
 text = refl
 
-clear : clear-list-exit (lent 21 252 94 14 100 136) recording
+clear : clear-list-exit (lent 21 252 94 14 154 136) recording
     ≡ record {
       answer = ok (counts 21 21 47 7 136);
       visited = visited;
       blocks = blocks;
       links = links;
       gaps = gaps;
-      scratch = replicate 100 0;
+      scratch = replicate 154 0;
       out =
           67 ∷ 76 ∷ 82 ∷ 1 ∷ 0 ∷ 0 ∷ 0 ∷ 0 ∷ 48 ∷ 5 ∷ 0 ∷ 0 ∷ 0 ∷ 0 ∷ 0 ∷ 0 ∷ 7 ∷ 0 ∷ 0 ∷ 0 ∷ 0 ∷ 0 ∷ 0 ∷ 0 ∷ 203 ∷ 0 ∷ 0 ∷ 0 ∷ 0 ∷ 0 ∷ 0 ∷ 0
           ∷ 208 ∷ 0 ∷ 0 ∷ 0 ∷ 0 ∷ 0 ∷ 0 ∷ 0 ∷ 107 ∷ 1 ∷ 0 ∷ 0 ∷ 0 ∷ 0 ∷ 0 ∷ 0 ∷ 112 ∷ 1 ∷ 0 ∷ 0 ∷ 0 ∷ 0 ∷ 0 ∷ 0 ∷ 116 ∷ 3 ∷ 0 ∷ 0 ∷ 0 ∷ 0 ∷ 0 ∷ 0

@@ -1,27 +1,29 @@
--- What the scratch table takes up: the extents of the blocks and the read bytes, in as many rows as there are read ranges.
-use mathlib.Core.Path.{_≡_, refl, sym, _∙_}
-use mathlib.Core.Bool.{Bool, true, false, cond, not, _||_, _&&_, or-assoc}
+-- What the scratch table takes up: the extents of the blocks and the bytes that are read or kept, in as many rows as there are ranges
+-- of these.
+use mathlib.Core.Path.{_≡_, refl, sym, ap, _∙_}
+use mathlib.Core.Bool.{Bool, true, false, cond, not, _||_, _&&_, or-assoc, or-false}
 use mathlib.Core.List.{List, [], _∷_, _++_, map}
-use Prim.Native.Nat.{ℕ, zero, suc, _+_, _≤_, _<_, max}
+use Prim.Native.Nat.{ℕ, zero, suc, _+_, _-_, _%_, _≤_, _<_, min, max}
 use native.Mathlib.Omega.{arith}
 use lib.Dec.{eqb, leb, ltb}
 use lib.ListN.{length, length-append}
 use borrow.Author.Tests.{lt-ltb, le-ltb, leb-true, ltb-true, ltb-false}
 use Rattle.mdf4.specs.Bytes.{Range, bytes, num, within, inside, concat-map}
 use Rattle.mdf4.specs.Act.{Kind, CN, TX, Row, Link, State}
-use Rattle.mdf4.specs.Kinds.{shape, is, read-len, make-link, leads-to, name-link, name-is-text, name-head, name-len, block-len}
-use Rattle.mdf4.specs.Reads.{link-ranges, name-ranges, named-ranges, links-at, ranges-at, row-ranges, read-ranges}
+use Rattle.mdf4.specs.Kinds.{shape, is, mark-of, read-len, make-link, leads-to, name-link, name-is-text, name-head, name-len, block-len}
+use Rattle.mdf4.specs.Reads.{leads-to-block, link-ranges, link-extent, name-ranges, named-ranges, links-at, ranges-at, row-ranges, read-ranges, kept-ranges, spared-ranges}
 use Rattle.mdf4.specs.Layout.{insert, sort, extent}
-use Rattle.mdf4.proofs.Bytes.{inside-append}
+use Rattle.mdf4.proofs.Bytes.{inside-append, and-right}
 use Rattle.mdf4.proofs.Lists.{All, all-append}
-use Rattle.mdf4.proofs.Reading.{row-links, read-whole}
+use Rattle.mdf4.proofs.Reading.{read-whole}
 use Rattle.mdf4.proofs.Good.{Inv, Readable}
+use Rattle.mdf4.proofs.Linked.{Found, links-found}
 use Rattle.tables.specs.Laid.{Printable}
 use Rattle.tables.specs.Rows.{held-rows, held-links, row-at, table}
 use Rattle.tables.proofs.Words.{rows-more}
-use Rattle.scratch_rows.specs.Covers.{cover, row-cover, target-cover, link-cover, covers}
+use Rattle.scratch_rows.specs.Covers.{cover, row-cover, block-cover, linked-cover, target-cover, link-cover, covers}
 use Rattle.scratch_rows.proofs.Lengths.{read-least}
-use Rattle.mdf4.proofs.Lists.{concat-map-append, concat-map-snoc}
+use Rattle.mdf4.proofs.Lists.{concat-map-snoc}
 
 -- sorting rows keeps what they give
 module _ (f : Row → List Range) where
@@ -81,6 +83,12 @@ cover-length : (r : List ℕ) (w : Row) → length (row-cover r w) ≡ length (r
 unfolding row-cover cover ranges-at
 cover-length r w = refl
 
+mix : (a b c d : Bool) → ((a || b) || (c || d)) ≡ ((a || c) || (b || d))
+mix true b c d = refl
+mix false true true d = refl
+mix false true false d = refl
+mix false false c d = refl
+
 -- all rows
 rows-inside : (r : List ℕ) (j : ℕ) (ws : List Row) → inside j (concat-map (row-cover r) ws) ≡ (inside j (map extent ws) || inside j (concat-map (row-ranges r) ws))
 unfolding concat-map inside
@@ -89,12 +97,6 @@ rows-inside r j (w ∷ ws) =
     inside-append j (row-cover r w) (concat-map (row-cover r) ws)
     ∙ rw (cover-inside r j w, rows-inside r j ws, inside-append j (row-ranges r w) (concat-map (row-ranges r) ws))
     (mix (within j (extent w)) (inside j (row-ranges r w)) (inside j (map extent ws)) (inside j (concat-map (row-ranges r) ws)))
-  where
-    mix : (a b c d : Bool) → ((a || b) || (c || d)) ≡ ((a || c) || (b || d))
-    mix true b c d = refl
-    mix false true true d = refl
-    mix false true false d = refl
-    mix false false c d = refl
 
 rows-length : (r : List ℕ) (ws : List Row) → length (concat-map (row-cover r) ws) ≡ length (concat-map (row-ranges r) ws)
 unfolding concat-map
@@ -102,49 +104,102 @@ rows-length r [] = refl
 rows-length r (w ∷ ws) =
     rw (length-append (row-cover r w) (concat-map (row-cover r) ws), length-append (row-ranges r w) (concat-map (row-ranges r) ws)) (omega (arith, cover-length r w, rows-length r ws))
 
--- the links that the walk makes
-links-made : (r : List ℕ) (ts : List ℕ) → concat-map (link-cover r) (map (make-link r) ts) ≡ concat-map link-ranges (map (make-link r) ts)
-unfolding concat-map link-cover target-cover make-link
-links-made r [] = refl
-links-made r (t ∷ ts) = rw (links-made r ts)
+-- the links of a walk: what is taken up depends on their targets alone
+links-covered : (r : List ℕ) (ls : List Link) → All (Found r) ls → concat-map (link-cover r) ls ≡ concat-map (linked-cover r) ls
+unfolding concat-map link-cover target-cover
+links-covered r [] a = refl
+links-covered r (l ∷ ls) a = rw (links-covered r ls (a .1)) (ap (λ (m : Link). linked-cover r m ++ concat-map (linked-cover r) ls) (sym (a .0)))
 
-links-same : (r : List ℕ) (ws : List Row) → concat-map (link-cover r) (row-links r ws) ≡ concat-map link-ranges (row-links r ws)
-unfolding concat-map row-links links-at
-links-same r [] = refl
-links-same r (w ∷ ws) =
-    let ts = shape (w .kind) .targets (bytes r (w .off) (read-len (w .kind) r (w .off))) in
-    rw (concat-map-append (link-cover r) (map (make-link r) ts) (row-links r ws), concat-map-append link-ranges (map (make-link r) ts) (row-links r ws), links-made r ts, links-same r ws)
+-- what is taken up of a link, and of all, is what is read and what is kept
+linked-inside : (r : List ℕ) (j : ℕ) (l : Link) → inside j (linked-cover r l) ≡ (inside j (link-ranges (length r) l) || inside j (link-extent r l))
+unfolding linked-cover block-cover link-ranges link-extent inside within
+linked-inside r j l = go (leads-to-block (length r) l) _
+  where
+    dist : (a b c : Bool) → ((a && b) || ((a && (b || c)) || false)) ≡ (((a && b) || false) || ((a && c) || false))
+    dist true true c = refl
+    dist true false c = refl
+    dist false b c = refl
+
+    go : (b : Bool) (last : ℕ)
+        → inside j (cond b ((l .target, l .target + 24) ∷ (l .target, max (l .target + 24) last) ∷ []) (cond b ((l .target, l .target + 24) ∷ []) (cond (eqb (l .found) 0) [] ((l .target, l .target + 4) ∷ []))))
+        ≡ (inside j (cond b ((l .target, l .target + 24) ∷ []) (cond (eqb (l .found) 0) [] ((l .target, l .target + 4) ∷ []))) || inside j (cond b ((l .target, last) ∷ []) []))
+    go true last = rw (wider (l .target + 24) last j) (dist (leb (l .target) j) (ltb j (l .target + 24)) (ltb j last))
+    go false last = sym (or-false (inside j (cond (eqb (l .found) 0) [] ((l .target, l .target + 4) ∷ []))))
+
+linked-length : (r : List ℕ) (l : Link) → length (linked-cover r l) ≡ length (link-ranges (length r) l) + length (link-extent r l)
+unfolding linked-cover block-cover link-ranges link-extent
+linked-length r l =
+    let last = min (l .target + block-len (bytes r (l .target) 24)) (length r) in
+    go (leads-to-block (length r) l) (l .target, l .target + 24) (l .target, last) (l .target, max (l .target + 24) last) (cond (eqb (l .found) 0) [] ((l .target, l .target + 4) ∷ []))
+  where
+    go : (b : Bool) (p q x : Range) (ps : List Range) → length (cond b (p ∷ x ∷ []) (cond b (p ∷ []) ps)) ≡ length (cond b (p ∷ []) ps) + length (cond b (q ∷ []) [])
+    go true p q x ps = refl
+    go false p q x ps = omega arith
+
+all-inside : (r : List ℕ) (j : ℕ) (ls : List Link)
+    → inside j (concat-map (linked-cover r) ls) ≡ (inside j (concat-map (link-ranges (length r)) ls) || inside j (concat-map (link-extent r) ls))
+unfolding concat-map inside
+all-inside r j [] = refl
+all-inside r j (l ∷ ls) =
+    inside-append j (linked-cover r l) (concat-map (linked-cover r) ls)
+    ∙ rw (
+      linked-inside r j l,
+      all-inside r j ls,
+      inside-append j (link-ranges (length r) l) (concat-map (link-ranges (length r)) ls),
+      inside-append j (link-extent r l) (concat-map (link-extent r) ls),
+    )
+    (mix (inside j (link-ranges (length r) l)) (inside j (link-extent r l)) (inside j (concat-map (link-ranges (length r)) ls)) (inside j (concat-map (link-extent r) ls)))
+
+all-length : (r : List ℕ) (ls : List Link)
+    → length (concat-map (linked-cover r) ls) ≡ length (concat-map (link-ranges (length r)) ls) + length (concat-map (link-extent r) ls)
+unfolding concat-map
+all-length r [] = refl
+all-length r (l ∷ ls) =
+    rw (
+      length-append (linked-cover r l) (concat-map (linked-cover r) ls),
+      length-append (link-ranges (length r) l) (concat-map (link-ranges (length r)) ls),
+      length-append (link-extent r l) (concat-map (link-extent r) ls),
+    )
+    (omega (arith, linked-length r l, all-length r ls))
 
 -- a state of the walk
 module _ (r : List ℕ) (s : State) (v : Inv r s) where
-  links-are : concat-map (link-cover r) (s .links) ≡ concat-map link-ranges (s .links)
-  links-are = rw (v .table) (links-same r (s .rows))
+  links-are : concat-map (link-cover r) (s .links) ≡ concat-map (linked-cover r) (s .links)
+  links-are = links-covered r (s .links) (links-found r s v)
 
-  pub covers-length : length (covers r (sort (s .rows)) (s .links)) ≡ length (read-ranges r s)
-  unfolding covers read-ranges
+  pub covers-length : length (covers r (sort (s .rows)) (s .links)) ≡ length (spared-ranges r s)
+  unfolding covers spared-ranges read-ranges kept-ranges
   covers-length =
-      rw (links-are, length-append (concat-map (row-cover r) (sort (s .rows))) (concat-map link-ranges (s .links)), length-append (concat-map (row-ranges r) (s .rows)) (concat-map link-ranges (s .links)))
-      (omega (arith, rows-length r (sort (s .rows)), sort-length (row-ranges r) (s .rows)))
+      rw (
+        links-are,
+        length-append (concat-map (row-cover r) (sort (s .rows))) (concat-map (linked-cover r) (s .links)),
+        length-append (concat-map (row-ranges r) (s .rows) ++ concat-map (link-ranges (length r)) (s .links)) (concat-map (link-extent r) (s .links)),
+        length-append (concat-map (row-ranges r) (s .rows)) (concat-map (link-ranges (length r)) (s .links)),
+      )
+      (omega (arith, rows-length r (sort (s .rows)), sort-length (row-ranges r) (s .rows), all-length r (s .links)))
 
-  pub covers-inside : (j : ℕ) → inside j (covers r (sort (s .rows)) (s .links)) ≡ (inside j (map extent (sort (s .rows))) || inside j (read-ranges r s))
-  unfolding covers read-ranges
+  pub covers-inside : (j : ℕ) → inside j (covers r (sort (s .rows)) (s .links)) ≡ (inside j (map extent (sort (s .rows))) || inside j (spared-ranges r s))
+  unfolding covers spared-ranges read-ranges kept-ranges
   covers-inside j =
       rw (
         links-are,
-        inside-append j (concat-map (row-cover r) (sort (s .rows))) (concat-map link-ranges (s .links)),
-        inside-append j (concat-map (row-ranges r) (s .rows)) (concat-map link-ranges (s .links)),
+        inside-append j (concat-map (row-cover r) (sort (s .rows))) (concat-map (linked-cover r) (s .links)),
+        inside-append j (concat-map (row-ranges r) (s .rows) ++ concat-map (link-ranges (length r)) (s .links)) (concat-map (link-extent r) (s .links)),
+        inside-append j (concat-map (row-ranges r) (s .rows)) (concat-map (link-ranges (length r)) (s .links)),
         rows-inside r j (sort (s .rows)),
         sort-inside (row-ranges r) j (s .rows),
+        all-inside r j (s .links),
       )
-      (or-assoc (inside j (map extent (sort (s .rows)))) (inside j (concat-map (row-ranges r) (s .rows))) (inside j (concat-map link-ranges (s .links))))
+      (join (inside j (map extent (sort (s .rows)))) (inside j (concat-map (row-ranges r) (s .rows))) (inside j (concat-map (link-ranges (length r)) (s .links))) (inside j (concat-map (link-extent r) (s .links))))
+    where
+      join : (a b c d : Bool) → ((a || b) || (c || d)) ≡ (a || ((b || c) || d))
+      join true b c d = refl
+      join false true c d = refl
+      join false false c d = refl
 
 -- a range that holds a byte and begins in a file of len bytes, or at its end
 abbrev pub Taken : ℕ → Range → Type 0
 Taken len p = (p .0 < p .1) × (p .0 ≤ len)
-
-both-true : (a b : Bool) → (a && b) ≡ true → b ≡ true
-both-true true b e = e
-both-true false b e = let z : _≡_ {A = ℕ} 0 1 = cc in absurd (omega arith)
 
 name-taken : (len : ℕ) (l : Link) (h : List ℕ) → All (Taken len) (name-ranges len l h)
 unfolding name-ranges name-is-text name-len
@@ -152,8 +207,8 @@ name-taken len l h = go (leads-to (shape TX .mark) l && leb (l .target + 24) len
   where
     go : (b : Bool) → (leads-to (shape TX .mark) l && leb (l .target + 24) len) ≡ b → (c : Bool)
         → All (Taken len) (cond b ((l .target, l .target + cond c (max 24 (block-len h)) 24) ∷ []) [])
-    go true e true = let z = leb-true (l .target + 24) len (both-true (leads-to (shape TX .mark) l) (leb (l .target + 24) len) e) in ((omega arith, omega arith), tt)
-    go true e false = let z = leb-true (l .target + 24) len (both-true (leads-to (shape TX .mark) l) (leb (l .target + 24) len) e) in ((omega arith, omega arith), tt)
+    go true e true = let z = leb-true (l .target + 24) len (and-right (leads-to (shape TX .mark) l) (leb (l .target + 24) len) e) in ((omega arith, omega arith), tt)
+    go true e false = let z = leb-true (l .target + 24) len (and-right (leads-to (shape TX .mark) l) (leb (l .target + 24) len) e) in ((omega arith, omega arith), tt)
     go false e c = tt
 
 named-taken : (k : Kind) (r : List ℕ) (ls : List Link) → All (Taken (length r)) (named-ranges k r ls)
@@ -178,17 +233,28 @@ rows-taken r b (suc n) f =
     rw (rows-more n b, concat-map-snoc (row-cover r) (held-rows n b) (row-at n b))
     (all-append (Taken (length r)) (concat-map (row-cover r) (held-rows n b)) (row-cover r (row-at n b)) (rows-taken r b n (λ i h. f i (omega arith))) (row-taken r (row-at n b) (f n (omega arith))))
 
-target-taken : (r : List ℕ) (t : ℕ) → All (Taken (length r)) (target-cover r t)
-unfolding target-cover link-ranges make-link
-target-taken r t = go (not (eqb t 0) && leb (t + 4) (length r)) refl
+-- the four bytes at a target
+four-taken : (r : List ℕ) (t : ℕ) → All (Taken (length r)) (cond (eqb (make-link r t .found) 0) [] ((t, t + 4) ∷ []))
+unfolding make-link
+four-taken r t = go (not (eqb t 0) && leb (t + 4) (length r)) refl
   where
     one : (b : Bool) → t + 4 ≤ length r → All (Taken (length r)) (cond b [] ((t, t + 4) ∷ []))
     one true h = tt
     one false h = ((omega arith, omega arith), tt)
 
     go : (b : Bool) → (not (eqb t 0) && leb (t + 4) (length r)) ≡ b → All (Taken (length r)) (cond (eqb (cond b (1 + num r t 4) 0) 0) [] ((t, t + 4) ∷ []))
-    go true e = one (eqb (1 + num r t 4) 0) (leb-true (t + 4) (length r) (both-true (not (eqb t 0)) (leb (t + 4) (length r)) e))
+    go true e = one (eqb (1 + num r t 4) 0) (leb-true (t + 4) (length r) (and-right (not (eqb t 0)) (leb (t + 4) (length r)) e))
     go false e = tt
+
+target-taken : (r : List ℕ) (t : ℕ) → All (Taken (length r)) (target-cover r t)
+unfolding target-cover linked-cover block-cover link-ranges leads-to-block make-link
+target-taken r t = go (eqb ((make-link r t .found - 1) % 65536) (mark-of "##")) (leb (t + 24) (length r)) refl (min (t + block-len (bytes r t 24)) (length r)) (cond (eqb (make-link r t .found) 0) [] ((t, t + 4) ∷ [])) (four-taken r t)
+  where
+    go : (a b : Bool) → leb (t + 24) (length r) ≡ b → (x : ℕ) (ps : List Range) → All (Taken (length r)) ps
+        → All (Taken (length r)) (cond (a && b) ((t, t + 24) ∷ (t, max (t + 24) x) ∷ []) (cond (a && b) ((t, t + 24) ∷ []) ps))
+    go true true e x ps f = let z = leb-true (t + 24) (length r) e in ((omega arith, omega arith), ((omega arith, omega arith), tt))
+    go true false e x ps f = f
+    go false b e x ps f = f
 
 links-taken : (r : List ℕ) (ls : List Link) → All (Taken (length r)) (concat-map (link-cover r) ls)
 unfolding concat-map link-cover

@@ -1,16 +1,18 @@
 // The scratch table of a clear list filled. It takes a range for each listed block, over its extent and its own bytes, one
-// for each channel name that is read and one for each link with four bytes inside the file. What these ranges leave is clear.
+// for each channel name that is read and one for each link with four bytes inside the file; a link that leads to a block, listed or
+// not, has one for the block's header and one for its extent instead (document 02, order 1). What these ranges leave is clear.
 ghost use mathlib.Core.Path.{_≡_};
 ghost use Prim.Native.Nat.{ℕ, _+_, _*_, _^_, _≤_, _<_};
 ghost use lib.ListN.{length};
 ghost use Rattle.mdf4.specs.Bytes.{concat-map};
 ghost use Rattle.mdf4.specs.Act.{DL};
-ghost use Rattle.mdf4.specs.Kinds.{read-len};
+ghost use Rattle.mdf4.specs.Kinds.{read-len, make-link};
+ghost use Rattle.mdf4.specs.Reads.{leads-to-block};
 ghost use Rattle.mdf4.specs.Answers.{block-row-words, pair-words};
 ghost use Rattle.mdf4.proofs.Good.{Readable};
 ghost use Rattle.tables.specs.Gaps.{Pushed};
 ghost use Rattle.tables.specs.Rows.{kind-of, row-at, held-rows, held-links};
-ghost use Rattle.scratch_rows.specs.Covers.{name-cover, cover, row-cover, target-cover, link-cover};
+ghost use Rattle.scratch_rows.specs.Covers.{name-cover, cover, row-cover, block-cover, target-cover, link-cover};
 use blocks::channel_block::ChannelBlock;
 use blocks::channel_group_block::ChannelGroupBlock;
 use blocks::common::BlockHeader;
@@ -48,6 +50,9 @@ const TX: u64 = 7;
 const MD: u64 = 8;
 
 const DL: u64 = 11;
+
+// What every block's mark starts with, ##, as a little-endian number.
+const BLOCK_MARK: u32 = 0x2323;
 
 // The read bytes of a data list.
 fn list_len(file: &[u8], offset: u64) -> u64
@@ -167,10 +172,37 @@ pub fn put_blocks(file: &[u8], blocks: &[u64], n: usize, scratch: &mut [u64]) ->
     count
 }
 
-// The four bytes at the target of a link, where it is not null and they lie inside the file.
+// Whether a link that is not null and has four bytes at its target leads to a block.
+fn leads_to_block(file: &[u8], target: u64) -> bool
+    requires { ⌜ (target ≡ 0 → ⊥) × (target + 4 ≤ length (now file)) ⌝ }
+    ensures { λ r. ⌜ r ≡ leads-to-block (length (now (file .entry))) (make-link (now (file .entry)) target) ⌝ }
+{
+    if file.len() as u64 - target < BlockHeader::LEN {
+        return false;
+    }
+    read_u32(file, target as usize) % 65536 == BLOCK_MARK
+}
+
+// The header and the extent of the block at `target`. The extent is cut at the file's end, before the sum is made; its range takes in
+// the header, so that it is never empty.
+fn put_linked_block(file: &[u8], target: u64, scratch: &mut [u64], count: usize) -> usize
+    requires { ⌜ (count < 2 ^ 62) × (target + 24 ≤ length (now file)) ⌝ }
+    ensures { λ r. ⌜ Pushed (now (scratch .entry)) count (block-cover (now (file .entry)) target) (now (scratch .exit)) r × (r ≤ count + 2) ⌝ }
+{
+    let len = file.len() as u64;
+    let next = put_range(scratch, count, target, target + BlockHeader::LEN);
+    let size = larger(BlockHeader::LEN, read_u64(file, target as usize + 8));
+    if len - target < size {
+        return put_range(scratch, next, target, len);
+    }
+    put_range(scratch, next, target, target + size)
+}
+
+// The ranges of a link that is not null: those of the block that it leads to, else the four bytes at the target, where they lie inside
+// the file.
 fn put_link(file: &[u8], target: u64, scratch: &mut [u64], count: usize) -> usize
-    requires { ⌜ count < 2 ^ 63 ⌝ }
-    ensures { λ r. ⌜ Pushed (now (scratch .entry)) count (target-cover (now (file .entry)) target) (now (scratch .exit)) r × (r ≤ count + 1) ⌝ }
+    requires { ⌜ count < 2 ^ 62 ⌝ }
+    ensures { λ r. ⌜ Pushed (now (scratch .entry)) count (target-cover (now (file .entry)) target) (now (scratch .exit)) r × (r ≤ count + 2) ⌝ }
 {
     let len = file.len() as u64;
     if target == 0 {
@@ -182,13 +214,16 @@ fn put_link(file: &[u8], target: u64, scratch: &mut [u64], count: usize) -> usiz
     if len - 4 < target {
         return count;
     }
+    if leads_to_block(file, target) {
+        return put_linked_block(file, target, scratch, count);
+    }
     put_range(scratch, count, target, target + 4)
 }
 
 // The ranges of the m links.
 pub fn put_links(file: &[u8], links: &[u64], m: usize, scratch: &mut [u64], start: usize) -> usize
-    requires { ⌜ (start < 2 ^ 62) × (m * pair-words ≤ length (now links)) ⌝ }
-    ensures { λ r. ⌜ Pushed (now (scratch .entry)) start (concat-map (link-cover (now (file .entry))) (held-links m (now (links .entry)))) (now (scratch .exit)) r × (r ≤ start + m) ⌝ }
+    requires { ⌜ (start < 2 ^ 61) × (m * pair-words ≤ length (now links)) ⌝ }
+    ensures { λ r. ⌜ Pushed (now (scratch .entry)) start (concat-map (link-cover (now (file .entry))) (held-links m (now (links .entry)))) (now (scratch .exit)) r × (r ≤ start + 2 * m) ⌝ }
 {
     let mut count = start;
     let mut i = 0;

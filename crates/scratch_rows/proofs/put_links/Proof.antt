@@ -1,5 +1,5 @@
 -- `scratch_rows::put_links` meets its contract. The invariant: the ranges of the links before i are pushed.
-use Prim.Native.Nat.{_+_, _-_, _≤_}
+use Prim.Native.Nat.{_+_, _-_, _*_, _≤_}
 use mathlib.Core.Path.{_≡_, refl}
 use native.Mathlib.Omega.{arith}
 use lib.ListN.{length}
@@ -13,7 +13,7 @@ use Rattle.scratch_rows.proofs.put_links.Statement.{statement}
 use Rattle.scratch_rows.proofs.put_links.Tie as tie
 
 abbrev Inv-loop : tie.InvT-loop
-Inv-loop file links m scratch₀ start count₀ i₀ scratch count i = (i ≤ m) × (count ≤ start + i) × (length scratch ≡ length scratch₀) × Pushed scratch₀ start (concat-map (link-cover file) (held-links i links)) scratch count
+Inv-loop file links m scratch₀ start count₀ i₀ scratch count i = (i ≤ m) × (count ≤ start + 2 * i) × (length scratch ≡ length scratch₀) × Pushed scratch₀ start (concat-map (link-cover file) (held-links i links)) scratch count
 
 abbrev μ-loop : tie.MeasureT-loop
 μ-loop file links m scratch₀ start count₀ i₀ scratch count i = m - i
