@@ -9,21 +9,19 @@ block at 176 with 72 bytes left. Filling bytes are 7, so that a byte which is ze
 of `linked_history`.
 """
 import os
-import struct
 import sys
+
+import deep
+from deep import q
 
 # positions of the header's links, and the target
 HISTORY, ATTACHMENT, EVENT, COMMENT = 1, 3, 4, 5
 AT = 176
 
 
-def q(*xs):
-    return b"".join(struct.pack("<Q", x) for x in xs)
-
-
 def header(links, block_len=104):
     """The identification and the header block, 168 bytes; links maps a link's position to its target."""
-    ident = b"MDF     4.10    console1" + bytes(4) + struct.pack("<H", 410) + bytes(34)
+    ident = deep.head([0] * 4)[:64]
     return ident + b"##HD" + bytes(4) + q(block_len, 6) + q(*[links.get(i, 0) for i in range(6)]) + bytes(32)
 
 

@@ -15,7 +15,7 @@ use Rattle.mdf4.specs.Layout.{sort, extent, gap, compute-gaps, Layout, layout-o
 use Rattle.mdf4.specs.Clear.{is-clear, none, close, le-bytes, range-bytes, clr-bytes, clear-ranges}
 use Rattle.mdf4.specs.Answers.{room}
 use Rattle.mdf4.specs.Demand3.{Apart, ranges-in}
-use Rattle.mdf4.proofs.Bytes.{inside-append}
+use Rattle.mdf4.proofs.Bytes.{not-or, inside-append}
 use Rattle.mdf4.proofs.Lists.{All, all-map}
 use Rattle.mdf4.proofs.Order.{rising-sort, tidy-sort}
 use Rattle.mdf4.proofs.Gaps.{Ordered, gaps-count, gaps-of, inside-count}
@@ -83,16 +83,12 @@ module _ (r : List ℕ) (s : State) (v : Inv r s) where
       let z : 0 + length r ≡ length r = omega arith in
       runs-inside (is-clear (y .gaps) (spared-ranges r s)) none 0 (length r) j tt ∙ rw (le-leb 0 j (omega arith), z) (go (ltb j (length r)) refl)
     where
-      morgan : (a b : Bool) → (not a && not b) ≡ not (a || b)
-      morgan true b = refl
-      morgan false b = refl
-
       go : (t : Bool) → ltb j (length r) ≡ t
           → (t && (inside j (compute-gaps (length r) 0 (map extent (sort (s .rows)))) && not (inside j (spared-ranges r s)))) ≡ (t && not (inside j (map extent (sort (s .rows))) || inside j (spared-ranges r s)))
       go true e =
           let q = inside-count j (compute-gaps (length r) 0 (map extent (sort (s .rows)))) (not (inside j (map extent (sort (s .rows)))))
           (gaps-of (length r) j (sort (s .rows)) (rising-sort (s .rows) (v .apart)) (tidy-sort (length r) (s .rows) (v .tidy)) (ltb-true j (length r) e)) in
-          rw q (morgan (inside j (map extent (sort (s .rows)))) (inside j (spared-ranges r s)))
+          rw q (sym (not-or (inside j (map extent (sort (s .rows)))) (inside j (spared-ranges r s))))
       go false e = refl
 
   clear-apart : Apart 0 (clear-ranges r (layout-of r s))

@@ -1,6 +1,6 @@
 -- Laws of byte ranges: agreement of two recordings on a range, and which bytes lists of ranges hold.
 use mathlib.Core.Path.{_≡_, refl, sym}
-use mathlib.Core.Bool.{Bool, true, false, _||_, _&&_, or-assoc, or-false}
+use mathlib.Core.Bool.{Bool, true, false, not, _||_, _&&_, or-assoc, or-false}
 use mathlib.Core.List.{List, [], _∷_, _++_}
 use Prim.Native.Nat.{ℕ, _+_, _-_, _≤_, _<_, min}
 use native.Mathlib.Omega.{arith}
@@ -31,6 +31,10 @@ or-right false b e = e
 pub or-none : (a b : Bool) → (a || b) ≡ false → (a ≡ false) × (b ≡ false)
 or-none true b e = let z : _≡_ {A = ℕ} 0 1 = cc in absurd (omega arith)
 or-none false b e = (refl, e)
+
+pub not-or : (a b : Bool) → not (a || b) ≡ (not a && not b)
+not-or true b = refl
+not-or false b = refl
 
 pub and-right : (a b : Bool) → (a && b) ≡ true → b ≡ true
 and-right true b e = e

@@ -3,7 +3,7 @@ use mathlib.Core.Path.{_≡_, refl, sym, ap, _∙_}
 use mathlib.Core.List.{List, [], _∷_, _++_, map}
 use Prim.Native.Nat.{ℕ, zero, suc, _/_, _<_}
 use native.Mathlib.Omega.{arith}
-use lib.ListN.{length, getD, take}
+use lib.ListN.{length, getD, take, List·getD-map}
 use lib.Seq.{take-append-seam}
 use Rattle.mdf4.specs.Bytes.{concat-map, Range}
 use Rattle.mdf4.specs.Act.{Row, Link, Out, ok, err}
@@ -112,11 +112,6 @@ unfolding offsets ranges-in concat-map link-words
 links-in [] z = refl
 links-in (l ∷ ls) z = ap (λ (ts : List ℕ). l .target ∷ ts) (links-in ls z)
 
-target-at : (ls : List Link) (j : ℕ) → getD (map (λ (l : Link). l .target) ls) j 0 ≡ getD ls j null .target
-target-at [] j = refl
-target-at (l ∷ ls) zero = refl
-target-at (l ∷ ls) (suc j) = target-at ls j
-
 above-at : (x : ℕ) (vs : List Row) (j : ℕ) → Above x vs → j < length vs → x < getD (map extent vs) j (0, 0) .0
 above-at x [] j a h = absurd (omega arith)
 above-at x (v ∷ vs) zero a h = a .0
@@ -155,7 +150,7 @@ module _ (n : Lent) (r : List ℕ) (m : Out Made) (c : Counts) (a : Accepted n r
 
   target-is : (j : ℕ) → getD (targets-in (exit n m) c) j 0 ≡ getD (a .y .state .links) j null .target
   unfolding targets-in exit filled
-  target-is j = rw (a .made-is, links-are, links-in) (target-at (a .y .state .links) j)
+  target-is j = rw (a .made-is, links-are, links-in) (List·getD-map (λ (l : Link). l .target) (a .y .state .links) j null)
 
   tables : Tables r (exit n m) c
   tables = record {

@@ -18,7 +18,7 @@ use Rattle.mdf4.specs.Clear.{is-clear, none, close, clear-ranges}
 use Rattle.mdf4.specs.Demand3.{sizes, tally, Apart, Gap, Block, offsets}
 use Rattle.mdf4.proofs.Results.{and-then-ok, check-ok, reason-ok}
 use Rattle.mdf4.proofs.Walk.{walk-again, walk-inv, walk-id, spared-ranges-again}
-use Rattle.mdf4.proofs.Bytes.{inside-append}
+use Rattle.mdf4.proofs.Bytes.{not-or, inside-append}
 use Rattle.mdf4.proofs.Reading.{Agree}
 use Rattle.mdf4.proofs.Lists.{All, all-at}
 use Rattle.mdf4.proofs.Gaps.{gaps-of, gap-sizes, all-gaps, gaps-behind}
@@ -26,10 +26,6 @@ use Rattle.mdf4.proofs.Good.{Inv, offs}
 use Rattle.mdf4.proofs.Order.{Rising, Above, elem-sort, rising-sort, tidy-sort}
 use Rattle.mdf4.proofs.Runs.{window, runs-inside, runs-apart, fewest}
 use Rattle.mdf4.proofs.Linked.{block-read, block-kept}
-
-not-or : (a b : Bool) → not (a || b) ≡ (not a && not b)
-not-or true b = refl
-not-or false b = refl
 
 above-not : (x : ℕ) (ws : List Row) → Above x ws → elem 0 (offs ws) ≡ true → ⊥
 unfolding elem
