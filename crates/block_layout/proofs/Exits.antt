@@ -1,4 +1,4 @@
--- What an entry takes from the answer of `lay`, and how it ends: the layout's own exit, and the exit of every refusal. Assumes nothing.
+-- What an entry takes from the answer of its first part, and how it ends: the layout's own exit, and the exit of every refusal. Assumes nothing.
 use mathlib.Core.Path.{_≡_, sym, ap}
 use mathlib.Core.List.{List, []}
 use Prim.Native.Nat.{ℕ, _+_, _/_, _^_, _≤_, _<_}
@@ -8,7 +8,7 @@ use Rattle.fmt.specs.Text.{Wrote}
 use Rattle.fmt.proofs.Room as Room
 use Rattle.mdf4.specs.Act.{Refusal, refusal, Out, ok, err, and-then, check}
 use Rattle.mdf4.specs.Reads.{spared-ranges}
-use Rattle.mdf4.specs.Layout.{Layout}
+use Rattle.mdf4.specs.Layout.{Layout, layout}
 use Rattle.mdf4.specs.Clear.{clear-ranges, clr-bytes}
 use Rattle.mdf4.specs.Listing.{to-text}
 use Rattle.mdf4.specs.Tree.{to-tree}
@@ -28,10 +28,11 @@ use Rattle.block_layout.specs.Entries.{exit-with, Long, Fits}
 
 -- the answers of `lay`
 module _ {n : Lent} {r v b l g : List ℕ} {x : Laid} where
-  pub laid-tables : {nv nb nl ng : ℕ} → x ≡ Tables nv nb nl ng → LaidMet n r x v b l g → Stands n r nv nb nl ng v b l g
+  pub laid-tables : {asked : Out (Unit {0})} {nv nb nl ng : ℕ} → x ≡ Tables nv nb nl ng → LaidMet asked n r x v b l g → Stands asked n r nv nb nl ng v b l g
   laid-tables e m = let k = rw e at m in k .is
 
-  pub laid-refused : {e : MdfError} → x ≡ Refused e → LaidMet n r x v b l g → laid n r ≡ err (numbers e)
+  pub laid-refused : {e : MdfError} → x ≡ Refused e → LaidMet (ok tt) n r x v b l g → laid n r ≡ err (numbers e)
+  unfolding laid layout
   laid-refused e m = let k = rw e at m in k .is
 
 -- tables and an output as long as those lent, zeroed: the exit of a refusal
@@ -50,7 +51,7 @@ accepted-exit n t s =
 
 -- the exits of `layout`
 module _ (v b l g r : List ℕ) where
-  pub layout-accepted : {nv nb nl ng : ℕ} {v1 b1 l1 g1 : List ℕ} → Stands (lent v b l g 0 0) r nv nb nl ng v1 b1 l1 g1
+  pub layout-accepted : {nv nb nl ng : ℕ} {v1 b1 l1 g1 : List ℕ} → Stands (ok tt) (lent v b l g 0 0) r nv nb nl ng v1 b1 l1 g1
       → exit-with (ok (record { visited = nv; blocks = nb; links = nl; gaps = ng; bytes = 0 })) v1 b1 l1 g1 [] [] ≡ layout-exit (lent v b l g 0 0) r
   unfolding layout-exit layout-made and-then filled
   layout-accepted s = rw (s .is) (accepted-exit (lent v b l g 0 0) [] (s .fills))

@@ -5,7 +5,7 @@ use Prim.Native.Nat.{ℕ, _-_, _/_, _<_}
 use native.Mathlib.Omega.{arith}
 use lib.ListN.{length, getD, replicate}
 use Rattle.mdf4.specs.Bytes.{concat-map}
-use Rattle.mdf4.specs.Act.{ok, Row, Link}
+use Rattle.mdf4.specs.Act.{Out, ok, Row, Link}
 use Rattle.mdf4.specs.Layout.{Layout, layout-of, layout}
 use Rattle.mdf4.specs.Answers.{Lent, limits, pair-words, row-words, filled, laid}
 use Rattle.mdf4.proofs.Good.{Readable, Placed, Inv}
@@ -42,7 +42,7 @@ unfolding laid
 is-layout n r y e =
     law.walked (limits n) (n .gaps / pair-words) r y e .2 ∙ ap (layout-of r) (sym (law.state-is (limits n) (n .gaps / pair-words) r y e))
 
-module _ {n : Lent} {r : List ℕ} {nv nb nl ng : ℕ} {v b l g : List ℕ} (t : Stands n r nv nb nl ng v b l g) where
+module _ {asked : Out (Unit {0})} {n : Lent} {r : List ℕ} {nv nb nl ng : ℕ} {v b l g : List ℕ} (t : Stands asked n r nv nb nl ng v b l g) where
   -- the tables hold the layout
   pub shows : Shows (t .layout) nb b nl l ng g
   unfolding filled

@@ -1,4 +1,4 @@
--- From zeroed tables over the walk to the layout that stands in them: what `lay` does, and how it refuses. Assumes nothing.
+-- From zeroed tables over the walk to the layout that stands in them, step by step, and how each step refuses. Assumes nothing.
 use mathlib.Core.Path.{_≡_, refl, sym, ap, _∙_}
 use mathlib.Core.Bool.{Bool, true, false, cond}
 use mathlib.Core.List.{List, [], _∷_, _++_}
@@ -10,33 +10,32 @@ use lib.Seq.{length-take-le}
 use borrow.Author.Tests.{le-leb, lt-leb}
 use Rattle.fmt.proofs.Room.{drop-replicate}
 use Rattle.mdf4.specs.Bytes.{Range, concat-map}
-use Rattle.mdf4.specs.Act.{Refusal, refusal, Result, ok, err, and-then, check, Stop, Row, State, reason}
+use Rattle.mdf4.specs.Act.{refusal, Result, Out, ok, err, and-then, check, Stop, Row, State, reason}
 use Rattle.mdf4.specs.Walk.{walk, start}
-use Rattle.mdf4.specs.Layout.{insert, sort, compute-gaps, Layout, layout-of, layout}
+use Rattle.mdf4.specs.Layout.{insert, sort, compute-gaps, Layout, layout-of, walk-state, gaps-fitted, layout-if, layout}
 use Rattle.mdf4.specs.Demand3.{ranges-in}
-use Rattle.mdf4.specs.Answers.{limits, block-row-words, pair-words, row-words, link-words, range-words, filled, laid}
-use Rattle.mdf4.proofs.Results.{never}
+use Rattle.mdf4.specs.Answers.{Lent, limits, block-row-words, pair-words, row-words, link-words, range-words, filled, laid}
 use Rattle.mdf4.proofs.Walk.{walk-inv}
+use Rattle.mdf4.proofs.Laid.{state-walked}
 use Rattle.tables.specs.Rows.{held-rows, held-links}
 use Rattle.tables.specs.Blocks.{Ordered}
 use Rattle.tables.specs.Gaps.{Listed}
 use Rattle.mdf4.proofs.Demand3.{rows-in}
 use Rattle.tables.proofs.Words.{rows-length, links-length}
-use Rattle.walk_state.specs.Held.{held, said, Within}
+use Rattle.walk_state.specs.Held.{held, said, Within, Met}
 use Rattle.walk_state.specs.declared.Walk.{Walk}
+use Rattle.walk_state.specs.declared.Walked.{Walked}
+use Rattle.walk_state.specs.declared.Walked.the-variants.{On, Refused}
 use Rattle.walk_state.proofs.Start.{none, held-none, within-none}
-use Rattle.walk_state.proofs.Steps.{MetOn}
-use Rattle.file_layout.specs.Tables.{lent, Zeroed, Stands}
+use Rattle.blocks.specs.Errors.{numbers}
+use Rattle.blocks.specs.declared.error.MdfError.{MdfError}
+use Rattle.file_layout.specs.Tables.{lent, Zeroed, Walks, WalkMet, Stands}
 
--- what an answer of the walk says
-said-ok : (m : Result Stop (Unit {0} × State)) (s : State) → said m ≡ ok s → m ≡ ok (tt, s)
-said-ok (ok p) s e = let q : p .1 ≡ s = cc in ap (λ (t : State). ok (tt, t)) q
-said-ok (err z) s e = never (sym e)
-
-said-err : (m : Result Stop (Unit {0} × State)) (x : Refusal) → said m ≡ err x → reason m ≡ err x
-unfolding reason
-said-err (ok p) x e = never e
-said-err (err z) x e = let q : z .why ≡ x = cc in ap (λ (y : Refusal). err y) q
+-- an answer of the walk, without its stopping block
+said-state : (m : Result Stop (Unit {0} × State)) (o : Out State) → said m ≡ o → and-then (reason m) (λ p. ok (p .1)) ≡ o
+unfolding reason and-then
+said-state (ok p) o e = e
+said-state (err z) o e = e
 
 -- words and zeros behind them
 pub filled-is : (k : ℕ) (xs t : List ℕ) → t ≡ xs ++ replicate k 0 → t ≡ filled (length t) xs
@@ -68,94 +67,113 @@ module _ {v b l g v1 b1 l1 g1 : List ℕ} (z : Zeroed v b l g v1 b1 l1 g1) where
   pub within-zeroed : Within none v1 b1 l1
   within-zeroed = rw (z .visited, z .blocks, z .links) (within-none (length v) (length b) (length l))
 
-  module _ (scratch out : ℕ) where
+  module _ (scratch out : ℕ) (r : List ℕ) where
     start-is : held none v1 b1 l1 ≡ start (limits (lent v b l g scratch out))
     unfolding limits
     start-is =
         held-none v1 b1 l1
         ∙ rw (zeros-long (length v) (z .visited), zeros-long (length b) (z .blocks), zeros-long (length l) (z .links))
 
-    -- the walk refuses
-    pub walk-refused : (r : List ℕ) (x : Refusal) → said (walk r (held none v1 b1 l1)) ≡ err x → laid (lent v b l g scratch out) r ≡ err x
-    unfolding laid layout and-then
-    walk-refused r x e = rw (said-err (walk r (start (limits (lent v b l g scratch out)))) x (rw start-is at e))
+    walk-says : (o : Out State) → said (walk r (held none v1 b1 l1)) ≡ o → walk-state (limits (lent v b l g scratch out)) r ≡ o
+    unfolding walk-state
+    walk-says o e = said-state (walk r (start (limits (lent v b l g scratch out)))) o (rw start-is at e)
 
-    -- the walk goes through to w, the rows are ordered and the gaps are listed
-    module _ (r : List ℕ) {v2 b2 l2 b3 g3 : List ℕ} {w : Walk} {count : ℕ} (m : MetOn none w v2 b2 l2 (said (walk r (held none v1 b1 l1))))
-        (o : Ordered (w .blocks) b2 b3) (h : Listed (compute-gaps (length r) 0 (ranges-in block-row-words (w .blocks) b3)) g1 g3 count) where
-      abbrev rows : List Row
-      rows = held-rows (w .blocks) b2
+    pub walk-met : (x : Walked) {v2 b2 l2 : List ℕ} → Met none x v2 b2 l2 (said (walk r (held none v1 b1 l1)))
+        → length v2 ≡ length v1 → length b2 ≡ length b1 → length l2 ≡ length l1 → WalkMet (lent v b l g scratch out) r x v2 b2 l2 g1
+    walk-met (On w) m kv kb kl = record {
+      is = record {
+        is = walk-says _ (sym (m .says));
+        within = m .after .within;
+        visited-long = kv ∙ zeros-long (length v) (z .visited);
+        blocks-long = kb ∙ zeros-long (length b) (z .blocks);
+        links-long = kl ∙ zeros-long (length l) (z .links);
+        gaps-zero = z .gaps;
+      };
+    }
+    walk-met (Refused e) m kv kb kl = record { is = walk-says _ (sym (m .says)) }
 
-      abbrev shown : Layout
-      shown = layout-of r (held w v2 b2 l2)
+-- the answers of `walk_file`
+module _ {n : Lent} {r v b l g : List ℕ} {x : Walked} where
+  pub walked-on : {w : Walk} → x ≡ On w → WalkMet n r x v b l g → Walks n r w v b l g
+  walked-on e m = let k = rw e at m in k .is
 
-      walk-is : walk r (start (limits (lent v b l g scratch out))) ≡ ok (tt, held w v2 b2 l2)
-      walk-is = said-ok (walk r (start (limits (lent v b l g scratch out)))) (held w v2 b2 l2) (rw start-is at (m .says))
+  pub walk-refused : (asked : Out (Unit {0})) {e : MdfError} → x ≡ Refused e → WalkMet n r x v b l g → layout-if asked (limits n) (n .gaps / pair-words) r ≡ err (numbers e)
+  unfolding layout-if and-then
+  walk-refused asked e m = let k = rw e at m in rw (k .is)
 
-      abbrev spare : List ℕ
-      spare = replicate {A = ℕ} (length b2 - length (concat-map (row-words []) rows)) 0
+-- the walk went through to w, the rows are ordered and the gaps are listed
+module _ {n : Lent} {r v b l g b3 g3 : List ℕ} {w : Walk} {count : ℕ} (k : Walks n r w v b l g)
+    (o : Ordered (w .blocks) b b3) (h : Listed (compute-gaps (length r) 0 (ranges-in block-row-words (w .blocks) b3)) g g3 count) where
+  abbrev rows : List Row
+  rows = held-rows (w .blocks) b
 
-      ordered : b3 ≡ concat-map (row-words []) (sort rows) ++ spare
-      unfolding filled held
-      ordered =
-          o .rows rows spare (m .within .rows .is) (sym (rows-length (w .blocks) b2))
-          (walk-inv (limits (lent v b l g scratch out)) r (held w v2 b2 l2) walk-is .apart)
+  abbrev shown : Layout
+  shown = layout-of r (held w v b l)
 
-      sorted-count : w .blocks ≡ length (sort rows)
-      sorted-count = sym (sort-length rows ∙ rows-length (w .blocks) b2)
+  abbrev spare : List ℕ
+  spare = replicate {A = ℕ} (length b - length (concat-map (row-words []) rows)) 0
 
-      gaps-are : compute-gaps (length r) 0 (ranges-in block-row-words (w .blocks) b3) ≡ shown .gaps
-      unfolding layout-of held
-      gaps-are =
-          let words : List ℕ = concat-map (row-words []) (sort rows) ++ spare in
-          ap (compute-gaps (length r) 0)
-          (ap (ranges-in block-row-words (w .blocks)) ordered ∙ ap (λ (j : ℕ). ranges-in block-row-words j words) sorted-count ∙ rows-in [] (sort rows) spare)
+  ordered : b3 ≡ concat-map (row-words []) (sort rows) ++ spare
+  unfolding filled held
+  ordered =
+      o .rows rows spare (k .within .rows .is) (sym (rows-length (w .blocks) b))
+      (walk-inv (limits n) r (held w v b l) (state-walked (limits n) r (held w v b l) (k .is)) .apart)
 
-      count-is : count ≡ length (shown .gaps)
-      count-is = h .count ∙ ap length gaps-are
+  sorted-count : w .blocks ≡ length (sort rows)
+  sorted-count = sym (sort-length rows ∙ rows-length (w .blocks) b)
 
-      gaps-long : length g3 ≡ length g
-      gaps-long = h .long ∙ zeros-long (length g) (z .gaps)
+  gaps-are : compute-gaps (length r) 0 (ranges-in block-row-words (w .blocks) b3) ≡ shown .gaps
+  unfolding layout-of held
+  gaps-are =
+      let words : List ℕ = concat-map (row-words []) (sort rows) ++ spare in
+      ap (compute-gaps (length r) 0)
+      (ap (ranges-in block-row-words (w .blocks)) ordered ∙ ap (λ (j : ℕ). ranges-in block-row-words j words) sorted-count ∙ rows-in [] (sort rows) spare)
 
-      -- refusal 13
-      pub gaps-refused : length g3 / pair-words < count → laid (lent v b l g scratch out) r ≡ err (refusal 13 0 (length g3 / pair-words) count)
-      unfolding laid layout and-then check reason
-      gaps-refused q =
-          rw (gaps-long, count-is, walk-is, lt-leb (length (shown .gaps)) (length g / pair-words) (omega (arith, count-is, gaps-long)))
+  count-is : count ≡ length (shown .gaps)
+  count-is = h .count ∙ ap length gaps-are
 
-      -- the gaps fit
-      accepted : count ≤ length g3 / pair-words → laid (lent v b l g scratch out) r ≡ ok shown
-      unfolding laid layout and-then check reason
-      accepted q = rw (walk-is, le-leb (length (shown .gaps)) (length g / pair-words) (omega (arith, count-is, gaps-long)))
+  gaps-long : length g3 ≡ n .gaps
+  gaps-long = h .long ∙ zeros-long (n .gaps) (k .gaps-zero)
 
-      gaps-filled : count ≤ length g3 / pair-words → g3 ≡ filled (length g) (concat-map range-words (shown .gaps))
-      gaps-filled q =
-          let gs : List Range = compute-gaps (length r) 0 (ranges-in block-row-words (w .blocks) b3) in
-          let fit : length gs ≤ length g1 / pair-words = omega (arith, h .count, h .long, gaps-long) in
-          let zeros : drop (pair-words * length gs) g1 ≡ replicate {A = ℕ} (length g - pair-words * length gs) 0
-          = ap (drop (pair-words * length gs)) (z .gaps) ∙ drop-replicate (pair-words * length gs) (length g) 0 in
-          filled-is (length g - pair-words * length gs) (concat-map range-words gs) g3 (h .held fit ∙ ap (λ (t : List ℕ). concat-map range-words gs ++ t) zeros)
-          ∙ ap (λ (j : ℕ). filled j (concat-map range-words gs)) gaps-long
-          ∙ ap (λ (ps : List Range). filled (length g) (concat-map range-words ps)) gaps-are
+  -- refusal 13
+  pub gaps-refused : length g3 / pair-words < count → layout-if (ok tt) (limits n) (n .gaps / pair-words) r ≡ err (refusal 13 0 (length g3 / pair-words) count)
+  unfolding layout-if gaps-fitted and-then check
+  gaps-refused q =
+      rw (gaps-long, count-is, k .is, lt-leb (length (shown .gaps)) (n .gaps / pair-words) (omega (arith, count-is, gaps-long)))
 
-      pub stands : length v2 ≡ length v1 → length b2 ≡ length b1 → length b3 ≡ length b2 → length l2 ≡ length l1 → count ≤ length g3 / pair-words
-          → Stands (lent v b l g scratch out) r (w .visited) (w .blocks) (w .links) count v2 b3 l2 g3
-      unfolding layout-of held
-      stands kv kb ko kl q = record {
-        layout = shown;
-        is = accepted q;
-        fills = record {
-          visited = m .within .visited .is ∙ ap (λ (j : ℕ). filled j (take (w .visited) v2)) (kv ∙ zeros-long (length v) (z .visited));
-          blocks = filled-is (length b2 - length (concat-map (row-words []) rows)) (concat-map (row-words []) (sort rows)) b3 ordered ∙ ap (λ (j : ℕ). filled j (concat-map (row-words []) (sort rows))) (ko ∙ kb ∙ zeros-long (length b) (z .blocks));
-          links = m .within .links .is ∙ ap (λ (j : ℕ). filled j (concat-map link-words (held-links (w .links) l2))) (kl ∙ zeros-long (length l) (z .links));
-          gaps = gaps-filled q;
-          visited-count = sym (length-take-le (w .visited) v2 (m .within .visited .fits));
-          blocks-count = sorted-count;
-          links-count = sym (links-length (w .links) l2);
-          gaps-count = count-is;
-        };
-        visited-fit = m .within .visited .fits;
-        blocks-fit = omega (arith, m .within .rows .fits);
-        links-fit = m .within .links .fits;
-        gaps-fit = omega (arith, gaps-long);
-      }
+  -- the gaps fit
+  accepted : count ≤ length g3 / pair-words → laid n r ≡ ok shown
+  unfolding laid layout layout-if gaps-fitted and-then check
+  accepted q = rw (k .is, le-leb (length (shown .gaps)) (n .gaps / pair-words) (omega (arith, count-is, gaps-long)))
+
+  gaps-filled : count ≤ length g3 / pair-words → g3 ≡ filled (n .gaps) (concat-map range-words (shown .gaps))
+  gaps-filled q =
+      let gs : List Range = compute-gaps (length r) 0 (ranges-in block-row-words (w .blocks) b3) in
+      let fit : length gs ≤ length g / pair-words = omega (arith, h .count, h .long, gaps-long) in
+      let zeros : drop (pair-words * length gs) g ≡ replicate {A = ℕ} (n .gaps - pair-words * length gs) 0
+      = ap (drop (pair-words * length gs)) (k .gaps-zero) ∙ drop-replicate (pair-words * length gs) (n .gaps) 0 in
+      filled-is (n .gaps - pair-words * length gs) (concat-map range-words gs) g3 (h .held fit ∙ ap (λ (t : List ℕ). concat-map range-words gs ++ t) zeros)
+      ∙ ap (λ (j : ℕ). filled j (concat-map range-words gs)) gaps-long
+      ∙ ap (λ (ps : List Range). filled (n .gaps) (concat-map range-words ps)) gaps-are
+
+  pub stands : length b3 ≡ length b → count ≤ length g3 / pair-words → Stands (ok tt) n r (w .visited) (w .blocks) (w .links) count v b3 l g3
+  unfolding layout-of held
+  stands kb q = record {
+    layout = shown;
+    is = accepted q;
+    granted = refl;
+    fills = record {
+      visited = k .within .visited .is ∙ ap (λ (j : ℕ). filled j (take (w .visited) v)) (k .visited-long);
+      blocks = filled-is (length b - length (concat-map (row-words []) rows)) (concat-map (row-words []) (sort rows)) b3 ordered ∙ ap (λ (j : ℕ). filled j (concat-map (row-words []) (sort rows))) (kb ∙ k .blocks-long);
+      links = k .within .links .is ∙ ap (λ (j : ℕ). filled j (concat-map link-words (held-links (w .links) l))) (k .links-long);
+      gaps = gaps-filled q;
+      visited-count = sym (length-take-le (w .visited) v (k .within .visited .fits));
+      blocks-count = sorted-count;
+      links-count = sym (links-length (w .links) l);
+      gaps-count = count-is;
+    };
+    visited-fit = k .within .visited .fits;
+    blocks-fit = omega (arith, k .within .rows .fits);
+    links-fit = k .within .links .fits;
+    gaps-fit = omega (arith, gaps-long);
+  }

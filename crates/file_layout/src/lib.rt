@@ -1,6 +1,12 @@
-// The layout of a recording in the lent tables: the Rust's `FileLayout::from_bytes`.
-ghost use Prim.Native.Nat.{ℕ};
-ghost use Rattle.file_layout.specs.Tables.{lent, Zeroed, LaidMet};
+// The layout of a recording in the lent tables, the Rust's `FileLayout::from_bytes`, in steps: the walk, what an entry asks besides,
+// the gaps.
+ghost use mathlib.Core.Path.{_≡_};
+ghost use mathlib.Core.List.{List};
+ghost use Prim.Native.Nat.{ℕ, _*_, _≤_};
+ghost use lib.ListN.{length};
+ghost use Rattle.mdf4.specs.Act.{ok};
+ghost use Rattle.mdf4.specs.Answers.{Lent, block-row-words};
+ghost use Rattle.file_layout.specs.Tables.{lent, Zeroed, Walks, WalkMet, LaidMet};
 use blocks::error::MdfError;
 use tables::PAIR_WORDS;
 use tables::list_gaps;
@@ -31,15 +37,15 @@ pub fn zero_tables(visited: &mut [u64], blocks: &mut [u64], links: &mut [u64], g
     zero_words(gaps);
 }
 
-// What every entry begins with: the tables zeroed, the walk, the blocks by offset, the gaps. A refusal leaves the tables free.
-pub fn lay(
+// The first step of every entry: the tables zeroed, then the walk. A refusal leaves the tables free.
+pub fn walk_file(
     data: &[u8],
     visited: &mut [u64],
     blocks: &mut [u64],
     links: &mut [u64],
     gaps: &mut [u64],
-) -> Laid
-    ensures { λ r. ⌜ ((scratch out : ℕ) → LaidMet (lent (now (visited .entry)) (now (blocks .entry)) (now (links .entry)) (now (gaps .entry)) scratch out) (now («data» .entry)) r (now (visited .exit)) (now (blocks .exit)) (now (links .exit)) (now (gaps .exit))) ⌝ }
+) -> Walked
+    ensures { λ r. ⌜ ((scratch out : ℕ) → WalkMet (lent (now (visited .entry)) (now (blocks .entry)) (now (links .entry)) (now (gaps .entry)) scratch out) (now («data» .entry)) r (now (visited .exit)) (now (blocks .exit)) (now (links .exit)) (now (gaps .exit))) ⌝ }
 {
     zero_tables(visited, blocks, links, gaps);
     let start = Walk {
@@ -50,25 +56,45 @@ pub fn lay(
         cg: 0,
         cn: 0,
     };
-    let r = walk(data, visited, blocks, links, start);
+    walk(data, visited, blocks, links, start)
+}
+
+// The next one, behind what an entry asks besides: the blocks by offset and the gaps between them, in a file of len bytes. A refusal
+// leaves the tables free.
+pub fn lay_gaps(len: u64, blocks: &mut [u64], gaps: &mut [u64], w: Walk) -> Laid
+    requires { ⌜ w .blocks * block-row-words ≤ length (now blocks) ⌝ }
+    ensures { λ r. ⌜ ((n : Lent) (file v l : List ℕ) → len ≡ length file → Walks n file w v (now (blocks .entry)) l (now (gaps .entry)) → LaidMet (ok tt) n file r v (now (blocks .exit)) l (now (gaps .exit))) ⌝ }
+{
+    order_blocks(blocks, w.blocks);
+    let count = list_gaps(blocks, w.blocks, len, gaps);
+    let rows = gaps.len() / PAIR_WORDS;
+    if rows < count {
+        return Laid::Refused(MdfError::TableTooShort {
+            lent: rows as u64,
+            needed: count as u64,
+        });
+    }
+    Laid::Tables {
+        visited: w.visited,
+        blocks: w.blocks,
+        links: w.links,
+        gaps: count,
+    }
+}
+
+// What every entry begins with; none asks anything besides.
+pub fn lay(
+    data: &[u8],
+    visited: &mut [u64],
+    blocks: &mut [u64],
+    links: &mut [u64],
+    gaps: &mut [u64],
+) -> Laid
+    ensures { λ r. ⌜ ((scratch out : ℕ) → LaidMet (ok tt) (lent (now (visited .entry)) (now (blocks .entry)) (now (links .entry)) (now (gaps .entry)) scratch out) (now («data» .entry)) r (now (visited .exit)) (now (blocks .exit)) (now (links .exit)) (now (gaps .exit))) ⌝ }
+{
+    let r = walk_file(data, visited, blocks, links, gaps);
     match r {
         Walked::Refused(e) => Laid::Refused(e),
-        Walked::On(w) => {
-            order_blocks(blocks, w.blocks);
-            let count = list_gaps(blocks, w.blocks, data.len() as u64, gaps);
-            let rows = gaps.len() / PAIR_WORDS;
-            if rows < count {
-                return Laid::Refused(MdfError::TableTooShort {
-                    lent: rows as u64,
-                    needed: count as u64,
-                });
-            }
-            Laid::Tables {
-                visited: w.visited,
-                blocks: w.blocks,
-                links: w.links,
-                gaps: count,
-            }
-        }
+        Walked::On(w) => lay_gaps(data.len() as u64, blocks, gaps, w),
     }
 }

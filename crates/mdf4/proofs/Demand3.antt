@@ -6,20 +6,22 @@ use native.Mathlib.Omega.{arith}
 use lib.ListN.{length, getD, take, List·getD-map}
 use lib.Seq.{take-append-seam}
 use Rattle.mdf4.specs.Bytes.{concat-map, Range}
-use Rattle.mdf4.specs.Act.{Row, Link, Out, ok, err}
+use Rattle.mdf4.specs.Act.{Row, Link, Out, ok, err, State}
 use Rattle.mdf4.specs.Kinds.{null}
+use Rattle.mdf4.specs.Walk.{walk, start}
 use Rattle.mdf4.specs.Reads.{spared-ranges}
-use Rattle.mdf4.specs.Layout.{Layout, layout, extent}
+use Rattle.mdf4.specs.Layout.{Layout, walk-state, layout, extent}
 use Rattle.mdf4.specs.Clear.{clear-ranges, clr-bytes}
 use Rattle.mdf4.specs.Listing.{to-text}
 use Rattle.mdf4.specs.Tree.{to-tree}
-use Rattle.mdf4.specs.Answers.{Lent, Counts, Made, made, exit, laid, limits, fitted, room, counts, filled, layout-made, to-text-made, to-tree-made, clear-list-made, layout-exit, to-text-exit, to-tree-exit, clear-list-exit, row-words, link-words, range-words, block-row-words, pair-words}
+use Rattle.mdf4.specs.Answers.{Lent, Counts, Exit, Made, made, exit, laid, limits, fitted, room, counts, filled, layout-made, to-text-made, to-tree-made, clear-list-made, layout-exit, to-text-exit, to-tree-exit, clear-list-exit, row-words, link-words, range-words, block-row-words, pair-words}
 use Rattle.mdf4.specs.Demand3.{Again, Alike, Tables, Cleared, Block, Spared, read, read-by, kept, kept-by, ranges-in, offsets, extents-in, gaps-in, targets-in}
 use Rattle.mdf4.proofs.Results.{never, and-then-ok, check-ok}
 use Rattle.mdf4.proofs.Reading.{Agree}
-use Rattle.mdf4.proofs.Laid.{ascending, partition, each-gap, gaps-add-up, clear-neither, block-header, block-not-clear, clear-apart, clear-fewest}
+use Rattle.mdf4.proofs.Walk.{walk-again}
+use Rattle.mdf4.proofs.Laid.{walked, state-is, walked-state, ascending, partition, each-gap, gaps-add-up, clear-neither, block-header, block-not-clear, clear-apart, clear-fewest}
 use Rattle.mdf4.proofs.Order.{Above, Rising}
-use Rattle.mdf4.proofs.Texts.{layout-exit-again, to-text-exit-again, to-tree-exit-again, clear-list-exit-again}
+use Rattle.mdf4.proofs.Texts.{Shared, shared, layout-exit-same, to-text-exit-same, to-tree-exit-same, clear-list-exit-same}
 
 -- an accepted call has a layout, and what it has made rests on it
 record Accepted (n : Lent) (r : List ℕ) (m : Out Made) (c : Counts) : Type 0 where
@@ -79,21 +81,48 @@ module _ (n : Lent) (r : List ℕ) (c : Counts) where
 
 -- Two recordings
 
-agree : (n : Lent) (r r' : List ℕ) (y : Layout) → laid n r ≡ ok y → Alike n r r' → Agree r r' (y .state)
-unfolding read read-by
-agree n r r' y e c = record { size = c .size; at = λ i l h. c .at i l (rw e h) }
+-- the walk of the second ends in the same state, and there they share what an entry takes from them
+module _ (n : Lent) (r r' : List ℕ) (y : Layout) (e : laid n r ≡ ok y) (k : Alike n r r') where
+  ended : (s : State) × (walk r (start (limits n)) ≡ ok (tt, s)) × Agree r r' s
+  unfolding read read-by laid
+  ended =
+      let w = walked (limits n) (n .gaps / pair-words) r y e in
+      let z = state-is (limits n) (n .gaps / pair-words) r y e in
+      (w .0, w .1, record { size = k .size; at = λ i l h. k .at i l (rw (e, z) h) })
+
+  first : walk-state (limits n) r ≡ ok (ended .0)
+  first = walked-state (limits n) r (ended .0) (ended .1)
+
+  second : walk-state (limits n) r' ≡ ok (ended .0)
+  second = walked-state (limits n) r' (ended .0) (walk-again (limits n) r r' (ended .0) (ended .1) (ended .2))
+
+  there : (s : State) → _≡_ {A = Out State} (ok (ended .0)) (ok s) → Shared r r' s
+  there s q = let z : ended .0 ≡ s = cc in rw (← z) (shared (limits n) r r' (ended .0) (ended .1) (ended .2))
+
+-- an entry that takes no more from two recordings than they share, and accepts only what has a layout, answers both alike
+pub record Same (entry : Lent → List ℕ → Exit) : Type 0 where
+  pub same : (n : Lent) (r r' : List ℕ) (o : Out State) → walk-state (limits n) r ≡ o → walk-state (limits n) r' ≡ o → ((s : State) → o ≡ ok s → Shared r r' s)
+      → entry n r ≡ entry n r'
+  pub laid : (n : Lent) (r : List ℕ) (c : Counts) → entry n r .answer ≡ ok c → (y : Layout) × (laid n r ≡ ok y)
+
+again : (entry : Lent → List ℕ → Exit) → Same entry → Again entry
+again entry h = record {
+  same = λ n r r' c e k.
+      let a = h .laid n r c e in
+      sym (h .same n r r' _ (first n r r' (a .0) (a .1) k) (second n r r' (a .0) (a .1) k) (there n r r' (a .0) (a .1) k));
+}
 
 pub layout-again : Again layout-exit
-layout-again = record { same = λ n r r' c e k. let a = layout-accepted n r c e in layout-exit-again n r (a .y) (a .laid-is) r' (agree n r r' (a .y) (a .laid-is) k) }
+layout-again = again layout-exit (record { same = layout-exit-same; laid = λ n r c e. let a = layout-accepted n r c e in (a .y, a .laid-is) })
 
 pub to-text-again : Again to-text-exit
-to-text-again = record { same = λ n r r' c e k. let a = to-text-accepted n r c e in to-text-exit-again n r (a .y) (a .laid-is) r' (agree n r r' (a .y) (a .laid-is) k) }
+to-text-again = again to-text-exit (record { same = to-text-exit-same; laid = λ n r c e. let a = to-text-accepted n r c e in (a .y, a .laid-is) })
 
 pub to-tree-again : Again to-tree-exit
-to-tree-again = record { same = λ n r r' c e k. let a = to-tree-accepted n r c e in to-tree-exit-again n r (a .y) (a .laid-is) r' (agree n r r' (a .y) (a .laid-is) k) }
+to-tree-again = again to-tree-exit (record { same = to-tree-exit-same; laid = λ n r c e. let a = to-tree-accepted n r c e in (a .y, a .laid-is) })
 
 pub clear-list-again : Again clear-list-exit
-clear-list-again = record { same = λ n r r' c e k. let a = clear-list-accepted n r c e .0 in clear-list-exit-again n r (a .y) (a .laid-is) r' (agree n r r' (a .y) (a .laid-is) k) }
+clear-list-again = again clear-list-exit (record { same = clear-list-exit-same; laid = λ n r c e. let a = clear-list-accepted n r c e .0 in (a .y, a .laid-is) })
 
 -- The tables: rows written as words are read back as they were
 

@@ -1,25 +1,23 @@
--- What holds of every accepted layout: it was walked, its offsets ascend, its gaps and clear ranges hold the right bytes, and a
--- recording that agrees on its read bytes has the same.
+-- What holds of every accepted layout: it was walked, its offsets ascend, and its gaps and clear ranges hold the right bytes.
 use mathlib.Core.Path.{_≡_, refl, sym, ap, _∙_}
 use mathlib.Core.Bool.{Bool, true, false, not, _||_, _&&_, and-false}
 use mathlib.Core.List.{List, [], _∷_, map}
 use Prim.Native.Nat.{ℕ, _+_, _≤_, _<_, max}
 use native.Mathlib.Omega.{arith}
-use lib.Dec.{leb, ltb, eqb}
+use lib.Dec.{ltb, eqb}
 use lib.ListN.{length, getD}
 use borrow.Author.Tests.{ltb-true, ltb-false, eqb-true, lt-ltb, le-ltb, le-leb}
 use Rattle.mdf4.specs.Bytes.{num, Range, inside, bit, count}
-use Rattle.mdf4.specs.Act.{ok, and-then, check, Row, State, Limits, elem, reason}
+use Rattle.mdf4.specs.Act.{ok, and-then, Row, State, Limits, elem, reason}
 use Rattle.mdf4.specs.Kinds.{null}
 use Rattle.mdf4.specs.Walk.{walk, start}
 use Rattle.mdf4.specs.Reads.{read-ranges, kept-ranges, spared-ranges}
-use Rattle.mdf4.specs.Layout.{sort, extent, Layout, layout-of, layout}
+use Rattle.mdf4.specs.Layout.{sort, extent, Layout, layout-of, walk-state, gaps-fitted, layout-if, layout}
 use Rattle.mdf4.specs.Clear.{is-clear, none, close, clear-ranges}
 use Rattle.mdf4.specs.Demand3.{sizes, tally, Apart, Gap, Block, offsets}
 use Rattle.mdf4.proofs.Results.{and-then-ok, check-ok, reason-ok}
-use Rattle.mdf4.proofs.Walk.{walk-again, walk-inv, walk-id, spared-ranges-again}
+use Rattle.mdf4.proofs.Walk.{walk-inv, walk-id}
 use Rattle.mdf4.proofs.Bytes.{not-or, inside-append}
-use Rattle.mdf4.proofs.Reading.{Agree}
 use Rattle.mdf4.proofs.Lists.{All, all-at}
 use Rattle.mdf4.proofs.Gaps.{gaps-of, gap-sizes, all-gaps, gaps-behind}
 use Rattle.mdf4.proofs.Good.{Inv, offs}
@@ -45,35 +43,33 @@ least-first (w ∷ ws) a h = go (eqb 0 (w .off)) refl h
     go true e q = (w, ws, refl, sym (eqb-true 0 (w .off) e))
     go false e q = absurd (above-not (w .off) ws (a .0) q)
 
+-- the walk's answer, with and without its stopping block
+pub state-walked : (lim : Limits) (r : List ℕ) (s : State) → walk-state lim r ≡ ok s → walk r (start lim) ≡ ok (tt, s)
+unfolding walk-state
+state-walked lim r s e =
+    let p = and-then-ok (reason (walk r (start lim))) _ s e in
+    let z : p .0 .1 ≡ s = cc in
+    reason-ok (walk r (start lim)) (tt, s) (p .1 ∙ ap (λ t. ok (tt, t)) z)
+
+pub walked-state : (lim : Limits) (r : List ℕ) (s : State) → walk r (start lim) ≡ ok (tt, s) → walk-state lim r ≡ ok s
+unfolding walk-state and-then reason
+walked-state lim r s e = rw e
+
+fitted-is : (lent : ℕ) (y y' : Layout) → gaps-fitted lent y ≡ ok y' → y' ≡ y
+unfolding gaps-fitted
+fitted-is lent y y' e = let q = check-ok _ _ _ _ e .1 in cc
+
 module _ (lim : Limits) (lent : ℕ) (r : List ℕ) (y : Layout) (e : layout lim lent r ≡ ok y) where
   -- an accepted recording was walked, and its layout is the state's
-  pub walked : (s : State) × (walk r (start lim) ≡ ok (tt, s)) × (y ≡ layout-of r s) × (leb (length (layout-of r s .gaps)) lent ≡ true)
-  unfolding layout
+  pub walked : (s : State) × (walk r (start lim) ≡ ok (tt, s)) × (y ≡ layout-of r s)
+  unfolding layout layout-if and-then
   walked =
-      let p = and-then-ok (reason (walk r (start lim))) _ y e in
-      let q = check-ok _ _ _ _ (p .2) in
-      (p .0 .1, reason-ok (walk r (start lim)) (p .0) (p .1), (cc), q .0)
+      let p = and-then-ok (walk-state lim r) _ y e in
+      (p .0, state-walked lim r (p .0) (p .1), fitted-is lent (layout-of r (p .0)) y (p .2))
 
   pub state-is : y .state ≡ walked .0
   unfolding layout-of
   state-is = ap (λ (z : Layout). z .state) (walked .2)
-
-  -- two recordings
-  module _ (r' : List ℕ) (c : Agree r r' (y .state)) where
-    c' : Agree r r' (walked .0)
-    c' = rw state-is at c
-
-    same-layout : layout-of r' (walked .0) ≡ layout-of r (walked .0)
-    unfolding layout-of
-    same-layout = rw (c .size)
-
-    pub accepts-again : layout lim lent r' ≡ ok y
-    unfolding layout and-then check reason
-    accepts-again = rw (walk-again lim r r' (walked .0) (walked .1) c', same-layout, walked .3) (ap ok (sym (walked .2)))
-
-    pub clear-ranges-again : clear-ranges r' y ≡ clear-ranges r y
-    unfolding clear-ranges
-    clear-ranges-again = rw (state-is, ← spared-ranges-again lim r r' (walked .0) (walked .1) c', c .size)
 
   pub inv : Inv r (walked .0)
   inv = walk-inv lim r (walked .0) (walked .1)

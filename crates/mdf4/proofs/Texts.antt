@@ -1,25 +1,26 @@
 -- Two recordings that agree on what the first one reads have one listing, one tree and one clear list, and every entry gives one
 -- answer and leaves the same in the lent memory.
-use mathlib.Core.Path.{_≡_, refl, sym}
+use mathlib.Core.Path.{_≡_, refl, ap}
 use mathlib.Core.Bool.{cond, Bool, true, false}
 use mathlib.Core.List.{List, [], _∷_}
 use Prim.Native.Nat.{ℕ, zero, suc, _+_, _/_, _<_}
 use lib.Dec.{leb, eqb}
 use lib.ListN.{length, getD}
 use Rattle.mdf4.specs.Bytes.{bytes, within, inside, concat-map}
-use Rattle.mdf4.specs.Act.{Result, Out, ok, err, and-then, Kind, CN, Row, Link, State, elem}
+use Rattle.mdf4.specs.Act.{Refusal, refusal, Result, Out, ok, err, and-then, check, Kind, CN, Row, Link, State, Limits, elem}
 use Rattle.mdf4.specs.Kinds.{read-len, is, name-link, name-is-text, name-len, name-head}
+use Rattle.mdf4.specs.Walk.{walk, start}
 use Rattle.mdf4.specs.Reads.{name-ranges, named-ranges, link-ranges, links-at, ranges-at, row-ranges, read-ranges, spared-ranges}
-use Rattle.mdf4.specs.Layout.{insert, sort, Layout, layout-of, layout}
+use Rattle.mdf4.specs.Layout.{insert, sort, Layout, layout-of, walk-state, gaps-fitted, layout-if, layout}
 use Rattle.mdf4.specs.Clear.{clear-ranges}
 use Rattle.mdf4.specs.Describe.{name-bytes, block-bytes, row-name, describe, extra-line}
 use Rattle.mdf4.specs.Listing.{row-lines, block-links, links-of, to-text}
 use Rattle.mdf4.specs.Tree.{Edge, root, Child, child-at, child-of, children, Printed, render-children, node-line, node-by, render-tree-node, root-by, roots, to-tree, max-levels}
-use Rattle.mdf4.specs.Answers.{Lent, limits, laid, layout-made, to-text-made, to-tree-made, clear-list-made, layout-exit, to-text-exit, to-tree-exit, clear-list-exit, pair-words}
+use Rattle.mdf4.specs.Answers.{Lent, limits, laid, exit, layout-made, to-text-made, to-tree-made, clear-list-made, layout-exit, to-text-exit, to-tree-exit, clear-list-exit, pair-words}
 use Rattle.mdf4.proofs.Bytes.{inside-append, or-left, or-right, bytes-agree, concat-map-inside}
 use Rattle.mdf4.proofs.Reading.{row-links, Agree, within-in, read-len-same, block-bytes-same, links-at-same, name-head-same, own-agree, spared-ranges-same}
 use Rattle.mdf4.proofs.Lists.{All, all-append, all-map}
-use Rattle.mdf4.proofs.Laid.{accepts-again, clear-ranges-again, walked, inv, state-is}
+use Rattle.mdf4.proofs.Walk.{walk-inv}
 
 all-insert : (P : Row → Type 0) (w : Row) (vs : List Row) → P w → All P vs → All P (insert w vs)
 unfolding insert
@@ -183,50 +184,77 @@ module _ (r r' : List ℕ) (y : Layout) (size : length r ≡ length r') (h : All
   unfolding to-tree
   to-tree-same = roots-same (y .blocks) h []
 
--- an accepted recording, and another that agrees on what it reads
-module _ (n : Lent) (r : List ℕ) (y : Layout) (e : laid n r ≡ ok y) (r' : List ℕ) (c : Agree r r' (y .state)) where
-  laid-is : layout (limits n) (n .gaps / pair-words) r ≡ ok y
-  unfolding laid
-  laid-is = e
+-- What two recordings share at the state in which the first one's walk ends: all that an entry takes from them.
+pub record Shared (r r' : List ℕ) (s : State) : Type 0 where
+  pub size : length r ≡ length r'
+  pub told : All (Told r r') (s .rows)
+  pub spared : spared-ranges r s ≡ spared-ranges r' s
 
-  again : laid n r' ≡ ok y
-  unfolding laid
-  again = accepts-again (limits n) (n .gaps / pair-words) r y laid-is r' c
+-- recordings that agree on what the first one reads share it
+pub shared : (lim : Limits) (r r' : List ℕ) (s : State) → walk r (start lim) ≡ ok (tt, s) → Agree r r' s → Shared r r' s
+shared lim r r' s e c =
+    let t = walk-inv lim r s e .table in
+    record { size = c .size; told = state-told r r' s t c; spared = spared-ranges-same r r' s t c }
 
-  table : y .state .links ≡ row-links r (y .state .rows)
-  table = rw (state-is (limits n) (n .gaps / pair-words) r y laid-is) (inv (limits n) (n .gaps / pair-words) r y laid-is .table)
-
-  rows-told : All (Told r r') (y .blocks)
+module _ (r r' : List ℕ) (s : State) (t : Shared r r' s) where
+  layout-of-same : layout-of r s ≡ layout-of r' s
   unfolding layout-of
-  rows-told =
-      let s = walked (limits n) (n .gaps / pair-words) r y laid-is .0 in
-      let z = walked (limits n) (n .gaps / pair-words) r y laid-is .2 in
-      rw z (all-sort (Told r r') (s .rows) (rw (state-is (limits n) (n .gaps / pair-words) r y laid-is) at (state-told r r' (y .state) table c)))
+  layout-of-same = rw (t .size)
 
-  pub to-text-again : to-text r' y ≡ to-text r y
-  to-text-again = sym (to-text-same r r' y (c .size) rows-told)
+  blocks-told : All (Told r r') (layout-of r s .blocks)
+  unfolding layout-of
+  blocks-told = all-sort (Told r r') (s .rows) (t .told)
 
-  pub to-tree-again : to-tree r' y ≡ to-tree r y
-  to-tree-again = sym (to-tree-same r r' y (c .size) rows-told)
+  spared-is : spared-ranges r (layout-of r s .state) ≡ spared-ranges r' (layout-of r s .state)
+  unfolding layout-of
+  spared-is = t .spared
 
-  pub clear-ranges-are : clear-ranges r' y ≡ clear-ranges r y
-  clear-ranges-are = clear-ranges-again (limits n) (n .gaps / pair-words) r y laid-is r' c
+  clear-ranges-same : clear-ranges r (layout-of r s) ≡ clear-ranges r' (layout-of r s)
+  unfolding clear-ranges
+  clear-ranges-same = rw (spared-is, t .size)
 
-  pub spared-ranges-again : spared-ranges r' (y .state) ≡ spared-ranges r (y .state)
-  spared-ranges-again = sym (spared-ranges-same r r' (y .state) table c)
+-- what follows the gap table's refusal takes the layout itself
+fitted-then : {B : Type 0} (lent : ℕ) (y : Layout) (f g : Layout → Out B) → f y ≡ g y → and-then (gaps-fitted lent y) f ≡ and-then (gaps-fitted lent y) g
+unfolding gaps-fitted and-then check
+fitted-then lent y f g e = go (leb (length (y .gaps)) lent) (refusal 13 0 lent (length (y .gaps)))
+  where
+    go : (b : Bool) (x : Refusal) → and-then (and-then (check b x) (λ u. ok y)) f ≡ and-then (and-then (check b x) (λ u. ok y)) g
+    go true x = e
+    go false x = refl
 
-  pub layout-exit-again : layout-exit n r' ≡ layout-exit n r
-  unfolding layout-exit layout-made
-  layout-exit-again = rw (again, e)
+-- Two recordings whose walks answer the same, and share what an entry takes from them where they end: every entry answers the same
+-- and leaves the same in the lent memory, be it refused or not.
+module _ (n : Lent) (r r' : List ℕ) (o : Out State) (e : walk-state (limits n) r ≡ o) (e' : walk-state (limits n) r' ≡ o) (t : (s : State) → o ≡ ok s → Shared r r' s) where
+  laid-then : {B : Type 0} (asked asked' : Out (Unit {0})) (f g : Layout → Out B) → ((s : State) → Shared r r' s → asked ≡ asked')
+      → ((s : State) → Shared r r' s → f (layout-of r s) ≡ g (layout-of r s))
+      → and-then (layout-if asked (limits n) (n .gaps / pair-words) r) f ≡ and-then (layout-if asked' (limits n) (n .gaps / pair-words) r') g
+  unfolding layout-if and-then
+  laid-then asked asked' f g a h = rw (e, e') (go o t)
+    where
+      behind : (x : Out (Unit {0})) (s : State) → Shared r r' s
+          → and-then (and-then x (λ u. gaps-fitted (n .gaps / pair-words) (layout-of r s))) f ≡ and-then (and-then x (λ u. gaps-fitted (n .gaps / pair-words) (layout-of r' s))) g
+      behind (ok u) s t = rw (← layout-of-same r r' s t) (fitted-then _ (layout-of r s) f g (h s t))
+      behind (err x) s t = refl
 
-  pub to-text-exit-again : to-text-exit n r' ≡ to-text-exit n r
-  unfolding to-text-exit to-text-made and-then
-  to-text-exit-again = rw (again, e, to-text-again)
+      go : (o : Out State) → ((s : State) → o ≡ ok s → Shared r r' s)
+          → and-then (and-then o (λ s. and-then asked (λ u. gaps-fitted (n .gaps / pair-words) (layout-of r s)))) f
+          ≡ and-then (and-then o (λ s. and-then asked' (λ u. gaps-fitted (n .gaps / pair-words) (layout-of r' s)))) g
+      go (ok s) t = rw (← a s (t s refl)) (behind asked s (t s refl))
+      go (err x) t = refl
 
-  pub to-tree-exit-again : to-tree-exit n r' ≡ to-tree-exit n r
-  unfolding to-tree-exit to-tree-made and-then
-  to-tree-exit-again = rw (again, e, to-tree-again)
+  pub layout-exit-same : layout-exit n r ≡ layout-exit n r'
+  unfolding layout-exit layout-made laid layout
+  layout-exit-same = ap (exit n) (laid-then _ _ _ _ (λ s t. refl) (λ s t. refl))
 
-  pub clear-list-exit-again : clear-list-exit n r' ≡ clear-list-exit n r
-  unfolding clear-list-exit clear-list-made and-then
-  clear-list-exit-again = rw (again, e, clear-ranges-are, spared-ranges-again, c .size)
+  pub to-text-exit-same : to-text-exit n r ≡ to-text-exit n r'
+  unfolding to-text-exit to-text-made laid layout
+  to-text-exit-same = ap (exit n) (laid-then _ _ _ _ (λ s t. refl) (λ s t. rw (to-text-same r r' (layout-of r s) (t .size) (blocks-told r r' s t))))
+
+  pub to-tree-exit-same : to-tree-exit n r ≡ to-tree-exit n r'
+  unfolding to-tree-exit to-tree-made laid layout
+  to-tree-exit-same = ap (exit n) (laid-then _ _ _ _ (λ s t. refl) (λ s t. rw (to-tree-same r r' (layout-of r s) (t .size) (blocks-told r r' s t))))
+
+  pub clear-list-exit-same : clear-list-exit n r ≡ clear-list-exit n r'
+  unfolding clear-list-exit clear-list-made laid layout
+  clear-list-exit-same =
+      ap (exit n) (laid-then _ _ _ _ (λ s t. refl) (λ s t. rw (spared-is r r' s t, clear-ranges-same r r' s t, t .size)))

@@ -8,9 +8,8 @@ use Rattle.mdf4.specs.Bytes.{bytes}
 use Rattle.mdf4.specs.Act.{refusal, ok, and-then, Kind, ID, UT, UD, Link, State, Limits, Act, choose, pure, _>>_, elem, visit, once}
 use Rattle.mdf4.specs.Kinds.{RecordLayout, no-records}
 use Rattle.mdf4.specs.Walk.{enter, text-kind, enter-text, walk-text-like, walk-source, walk-conversion, record-data-block, record-unknown-block, walk-data-block, walk-data-region, walk-channel, walk-channel-group, walk-data-group, walk-header, start, walk-identification, walk, walk-data-list, list-too-deep, Handed}
-use Rattle.mdf4.specs.Reads.{spared-ranges}
 use Rattle.mdf4.proofs.Results.{and-then-ok, ok-both}
-use Rattle.mdf4.proofs.Reading.{spared-ranges-same, row-links, Agree}
+use Rattle.mdf4.proofs.Reading.{row-links, Agree}
 use Rattle.mdf4.proofs.Good.{Good, Any, Ready, Inv, good-pure, good-stop, good-bind, good-then, good-choose, good-sized, good-seen, good-weaken, good-chain, good-each, good-once, good-enter, enter-head, enter-listed, offs}
 
 pub ruleset shapes = (good-pure, good-stop, good-bind, good-then, good-choose, good-sized, good-seen, good-chain, good-each, good-once, good-enter)
@@ -128,6 +127,3 @@ unfolding walk _>>_
 walk-id lim r s e =
     let p = and-then-ok (walk-identification r (start lim)) _ (tt {0}, s) e in
     good-walk-header (start lim .lent .visited) .went r (p .0 .1) tt s (p .2) .listed 0 (id-listed r lim (p .0 .1) (p .1))
-
-pub spared-ranges-again : (lim : Limits) (r r' : List ℕ) (s : State) → walk r (start lim) ≡ ok (tt, s) → Agree r r' s → spared-ranges r s ≡ spared-ranges r' s
-spared-ranges-again lim r r' s e c = spared-ranges-same r r' s (walk-inv lim r s e .table) c

@@ -1,4 +1,5 @@
--- The layout: the rows by offset and the gaps between them, as `FileLayout::from_bytes` makes them; refusal 13 of the gap table.
+-- The layout: the walk, the rows by offset and the gaps between them, as `FileLayout::from_bytes` makes them; refusal 13 of the gap
+-- table; and where an entry may ask something of its own: between the walk and the gaps.
 use mathlib.Core.Bool.{cond}
 use mathlib.Core.List.{List, [], _∷_, _++_, map}
 use Prim.Native.Nat.{ℕ, max}
@@ -38,9 +39,18 @@ pub record Layout : Type 0 where
 unfoldable pub layout-of : List ℕ → State → Layout
 layout-of r s = record { state = s; blocks = sort (s .rows); gaps = compute-gaps (length r) 0 (map extent (sort (s .rows))) }
 
--- of the limits of the walk and the whole gap rows lent
+-- the state in which the walk ends: refusals 1 to 12, and 15 of a data list
+unfoldable pub walk-state : Limits → List ℕ → Out State
+walk-state lim r = and-then (reason (walk r (start lim))) (λ p. ok (p .1))
+
+-- the layout, where the gap table takes its gaps: refusal 13, of the whole rows lent
+unfoldable pub gaps-fitted : ℕ → Layout → Out Layout
+gaps-fitted lent y = and-then (check (leb (length (y .gaps)) lent) (refusal 13 0 lent (length (y .gaps)))) (λ u. ok y)
+
+-- the walk, what an entry asks of the recording besides, then the gaps
+unfoldable pub layout-if : Out (Unit {0}) → Limits → ℕ → List ℕ → Out Layout
+layout-if asked lim lent r = and-then (walk-state lim r) (λ s. and-then asked (λ u. gaps-fitted lent (layout-of r s)))
+
+-- an entry that asks nothing
 unfoldable pub layout : Limits → ℕ → List ℕ → Out Layout
-layout lim lent r =
-    and-then (reason (walk r (start lim))) (λ p.
-    and-then (check (leb (length (layout-of r (p .1) .gaps)) lent) (refusal 13 0 lent (length (layout-of r (p .1) .gaps)))) (λ u.
-    ok (layout-of r (p .1))))
+layout lim lent r = layout-if (ok tt) lim lent r
