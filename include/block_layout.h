@@ -21,7 +21,7 @@ extern "C" {
 
 /*
  * The words of an answer. An `answer` with fewer words takes those that fit; words behind the ninth are left as they were.
- * A refusal has its number (1 to 7 or 9 to 15), place, a and b, then five zeros.
+ * A refusal has its number (1 to 7 or 9 to 16), place, a and b, then five zeros. Only a clear list answers 16.
  */
 enum {
     BLOCK_LAYOUT_NUMBER = 0, /* 0: accepted */
@@ -63,7 +63,8 @@ void block_layout_c_tree(const uint8_t *data, size_t data_len,
                          uint64_t *answer, size_t answer_len);
 
 /*
- * The clear list, in `out`. `scratch` takes rows of 2 words: one for each listed block and for each channel name that is read, two for
+ * The clear list, in `out`. A recording that is not finalised, whose u16 at byte 60 or u16 at byte 62 is not 0, is refused: 16, place 60, a
+ * and b the two words; after the walk, before the gap table's 13. `scratch` takes rows of 2 words: one for each listed block and for each channel name that is read, two for
  * each link whose target is not 0, has a mark that starts with ## and 24 bytes inside the recording, and one for each other nonzero
  * link with four bytes inside. Twice as many as block and link rows together suffice. It ends 0 always.
  */

@@ -13,6 +13,9 @@
 //! others with the scratch table only. All lent memory is filled with ones before each call, and so is one word or byte behind it, which
 //! must stay.
 //!
+//! The clear list of an unfinalised recording is refused with 16 (document 02, order 4), also where gap table, scratch table and output
+//! are short or empty, but not before the walk's own refusals. A copy with both words 0 is held as well, as any recording.
+//!
 //! Only recordings of at most 8,192 bytes are damaged, so that a million take minutes. Damaged are single bytes, the identification's
 //! fields, marks, block_len and links_nr, links, and the fields behind them; bytes are appended, linked blocks copied elsewhere, and
 //! recordings cut. Blocks are those that the Rust lists and those that their links lead to; where it refuses, those whose marks are
@@ -320,6 +323,12 @@ fn clear_list(data: &[u8], gaps: &[[u64; 2]], spared: &[[u64; 2]]) -> Vec<u8> {
     clr
 }
 
+/// The refusal of the recording's clear list if it is unfinalised (document 02, order 4).
+fn unfinalized(data: &[u8]) -> Option<[u64; 4]> {
+    let [standard, custom] = [60, 62].map(|at| u16::from_le_bytes([data[at], data[at + 1]]) as u64);
+    (standard != 0 || custom != 0).then_some([16, 60, standard, custom])
+}
+
 /// The recording with the ranges of the CLR bytes zeroed.
 fn blanked(data: &[u8], clr: &[u8]) -> Vec<u8> {
     let mut d = data.to_vec();
@@ -389,13 +398,34 @@ fn same_blanked(blank: &[u8], w: &Whole) -> bool {
     matches!(want(blank).0, Want::Accepted(b) if b == *w)
 }
 
+/// Holds the clear list of an unfinalised recording: the refusal after the walk, whatever is lent for what comes behind it.
+fn hold_unfinalized(lent: &mut Lent, data: &[u8], w: &Whole, r: [u64; 4], every: bool) -> Result<(), String> {
+    let exact = w.exact(Entry::Clear);
+    lent.check(Entry::Clear, data, &plenty(Entry::Clear, data, w.clear.len()), &refusal(r), "unfinalised, plenty")?;
+    lent.check(Entry::Clear, data, &exact, &refusal(r), "unfinalised, exact")?;
+    let [v, b, l, ..] = exact;
+    lent.check(Entry::Clear, data, &[v, b, l, 0, 0, 0], &refusal(r), "unfinalised, nothing for what follows the walk")?;
+    for k in (0..6).filter(|k| exact[*k] > 0 && (every || *k == SCRATCH)) {
+        let mut n = exact;
+        n[k] -= 1;
+        let wanted = if k < GAPS { w.short(k, &exact) } else { r };
+        lent.check(Entry::Clear, data, &n, &refusal(wanted), &format!("unfinalised, {}", LENT[k]))?;
+    }
+    Ok(())
+}
+
 /// Holds the library on an accepted recording; with every length varied, or the scratch table's only.
 fn hold_accepted(lent: &mut Lent, data: &[u8], w: &Whole, every: bool) -> Result<(), String> {
-    let blank = blanked(data, &w.clear);
+    let unfinalized = unfinalized(data);
+    let blank = if unfinalized.is_some() { data.to_vec() } else { blanked(data, &w.clear) };
     if blank != data && !same_blanked(&blank, w) {
         return Err("the oracle's answer changes by blanking".to_string());
     }
     for entry in ENTRIES {
+        if let (Entry::Clear, Some(r)) = (entry, unfinalized) {
+            hold_unfinalized(lent, data, w, r, every)?;
+            continue;
+        }
         let (exit, exact) = (w.exit(entry), w.exact(entry));
         let plenty = plenty(entry, data, exit.out.len());
         lent.check(entry, data, &plenty, &exit, "plenty")?;
@@ -414,11 +444,19 @@ fn hold_accepted(lent: &mut Lent, data: &[u8], w: &Whole, every: bool) -> Result
     Ok(())
 }
 
+/// Holds the library on a recording that the Rust refuses.
+fn hold_refused(lent: &mut Lent, data: &[u8], r: [u64; 4]) -> Result<(), String> {
+    ENTRIES.iter().try_for_each(|e| lent.check(*e, data, &plenty(*e, data, 24), &refusal(r), "refused"))
+}
+
 #[derive(Default)]
 struct Tally {
     accepted: u64,
+    /// With clear ranges, of an unfinalised one those of its copy with both words 0.
     cleared: u64,
     varied: u64,
+    /// Of the accepted ones.
+    unfinalized: u64,
     refused: [u64; 10],
     /// Held to the amended Rust.
     changed: u64,
@@ -433,19 +471,39 @@ impl Tally {
         match want {
             Want::Accepted(w) => {
                 self.accepted += 1;
-                self.cleared += (w.clear.len() > 24) as u64;
                 self.varied += every as u64;
-                hold_accepted(lent, data, &w, every)
+                let is_unfinalized = unfinalized(data).is_some();
+                self.unfinalized += is_unfinalized as u64;
+                self.cleared += (!is_unfinalized && w.clear.len() > 24) as u64;
+                hold_accepted(lent, data, &w, every)?;
+                if is_unfinalized {
+                    self.held_finalized(lent, data, every).map_err(|what| format!("with both words 0: {what}"))?;
+                }
+                Ok(())
             }
             Want::Refused(r) => {
                 self.refused[r[0] as usize] += 1;
-                ENTRIES.iter().try_for_each(|e| lent.check(*e, data, &plenty(*e, data, 24), &refusal(r), "refused"))
+                hold_refused(lent, data, r)
             }
             Want::Unnumbered(s) => {
                 self.unnumbered += 1;
                 println!("no number: {name}: {}", s.trim_end());
                 Ok(())
             }
+        }
+    }
+
+    /// Holds a copy with both words 0 to the oracle's answer for it. A link may lead to these bytes, so its rows may be others.
+    fn held_finalized(&mut self, lent: &mut Lent, data: &[u8], every: bool) -> Result<(), String> {
+        let mut copy = data.to_vec();
+        copy[60..64].fill(0);
+        match want(&copy).0 {
+            Want::Accepted(w) => {
+                self.cleared += (w.clear.len() > 24) as u64;
+                hold_accepted(lent, &copy, &w, every)
+            }
+            Want::Refused(r) => hold_refused(lent, &copy, r),
+            Want::Unnumbered(s) => Err(format!("no number: {}", s.trim_end())),
         }
     }
 
@@ -463,10 +521,10 @@ impl Tally {
     }
 
     fn print(&self) {
-        let Tally { accepted, cleared, varied, refused, changed, unnumbered, differ } = self;
+        let Tally { accepted, cleared, varied, unfinalized, refused, changed, unnumbered, differ } = self;
         let sum: u64 = refused.iter().sum();
         let each: Vec<String> = (1..10).filter(|k| refused[*k] > 0).map(|k| format!("{k}: {}", refused[k])).collect();
-        println!("{accepted} accepted ({cleared} with clear ranges, {varied} with every length varied),");
+        println!("{accepted} accepted ({cleared} with clear ranges, {varied} with every length varied; {unfinalized} unfinalised: 16),");
         println!("{sum} refused ({}), {unnumbered} without a number;", each.join(", "));
         println!("{changed} of them held to the amended Rust; {differ} differ");
     }

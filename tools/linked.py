@@ -102,6 +102,10 @@ MADE = {
 MADE.update({"linked_left_%d" % n: (left(n), [BEFORE, (180, AT + n)], 3) for n in range(5, 24)})
 
 
+def clr_bytes(recording, ranges):
+    return b"CLR\1\0\0\0\0" + q(len(recording), len(ranges), *[x for r in ranges for x in r])
+
+
 def check(name, recording, scratch, clr):
     """Holds scratch rows and CLR bytes of a recording named here against those worked out by hand."""
     if name not in MADE:
@@ -109,13 +113,18 @@ def check(name, recording, scratch, clr):
     made, ranges, rows = MADE[name]
     assert made == recording, name
     assert rows == scratch, (name, scratch)
-    assert clr == b"CLR\1\0\0\0\0" + q(len(made), len(ranges), *[x for r in ranges for x in r]), name
+    assert clr == clr_bytes(made, ranges), name
+
+
+def write(folder, made):
+    """Writes the recordings, each the first of what stands under its name."""
+    for name, (recording, *_) in made.items():
+        with open(os.path.join(folder, name + ".mf4"), "wb") as o:
+            o.write(recording)
 
 
 def main():
-    for name, (recording, _, _) in MADE.items():
-        with open(os.path.join(sys.argv[1], name + ".mf4"), "wb") as o:
-            o.write(recording)
+    write(sys.argv[1], MADE)
 
 
 # what a blanker leaves of linked_history

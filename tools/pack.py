@@ -1,29 +1,35 @@
 #!/usr/bin/env python3
 """Writes the pack of recorded answers that the program `replay` reads from standard input.
 
-  pack.py PACK AMENDED NAMES OUT
+  pack.py ORACLE AMENDED NAMES OUT
 
-PACK is what the oracle's `--pack` wrote for the recordings that NAMES lists, a name a line, and AMENDED what the amended oracle's did
-(tools/amend.py): its answer counts where the Rust panics on a channel's name with a block_len under 24; everywhere else both packs
-must be alike. All of recordings/ are taken, and of each family of other names (all that stands before the first digit) an even
-sample. A recording of deep.py with 513 data lists is added; the Rust has no such limit, so its refusal is document 01's. Of one with
-512, deep_lists_512.mf4, the tables alone are kept.
+ORACLE is the oracle's program, AMENDED the amended oracle's (tools/amend.py), and both are asked for the recordings that NAMES lists, a
+name a line: the amended answer counts where the Rust panics on a channel's name with a block_len under 24; everywhere else both must
+be alike. All of recordings/ are taken, and of each family of other names (all that stands before the first digit) an even sample. A
+recording of deep.py with 513 data lists is added; the Rust has no such limit, so its refusal is document 01's. Of one with 512,
+deep_lists_512.mf4, the tables alone are kept. Unfinalised recordings have no clear list (document 02, order 4): those that are accepted,
+but for tools/unfinalized.py's own, are added once more with both words 0.
 
 The pack: for each recording 72 bytes, then its parts. First the ends of the parts as u32, counted from the first part on: recording,
 visited words, block words, link words, gap words, listing, tree, CLR bytes; a part that is not compared is empty. Then as u32 the
-rows that the clear list needs of its scratch table. Then as u64: 0, and the places at which refusals 10, 11 and 12 come where the
-table is one row short (0: no row to be short of); or the refusal's number, place, a and b. CLR bytes are drawn from the rows by
-the text of document 01 and of document 02's order 1 (tools/recorded.py), since the Rust has no clear
-list; those of tools/linked.py are held against what is worked out there by hand.
+rows that the clear list needs of its scratch table, and as u16 the two words with which refusal 16 answers it in place of CLR bytes
+(both 0: it does not). Then as u64: 0, and the places at which refusals 10, 11 and 12 come where the table is one row short (0: no row
+to be short of); or the refusal's number, place, a and b. CLR bytes are drawn from the rows by the text of document 01 and of document
+02's order 1 (tools/recorded.py), since the Rust has no clear list; those of tools/linked.py and tools/unfinalized.py are held against
+what is worked out there by hand.
 """
 import collections
+import os
 import re
 import struct
+import subprocess
 import sys
+import tempfile
 
 import deep
 import linked
 import recorded
+import unfinalized
 
 LARGEST = 16000
 
@@ -31,8 +37,14 @@ LARGEST = 16000
 SHORT_NAME = struct.pack("<2Q", 1, 8)
 
 
-def parts_of(pack):
-    b = open(pack, "rb").read()
+def asked(oracle, names):
+    """Recording, rows, listing and tree of each name."""
+    with tempfile.TemporaryDirectory() as folder:
+        listed, pack = os.path.join(folder, "names"), os.path.join(folder, "pack")
+        with open(listed, "w") as o:
+            o.write("".join(name + "\n" for name in names))
+        subprocess.run([oracle, "--pack", pack, "@" + listed], check=True)
+        b = open(pack, "rb").read()
     p = 8
     for _ in range(struct.unpack_from("<Q", b)[0]):
         parts = []
@@ -43,9 +55,9 @@ def parts_of(pack):
         yield parts
 
 
-def expected(pack, amended):
-    """Each recording with what is expected of it."""
-    for rust, other in zip(parts_of(pack), parts_of(amended), strict=True):
+def expected(oracle, amended, names):
+    """Each recording with what is expected of it, and whether that is the amended Rust's answer."""
+    for rust, other in zip(asked(oracle, names), asked(amended, names), strict=True):
         if rust[1].startswith(SHORT_NAME):
             assert rust[0] == other[0]
             yield other, True
@@ -62,16 +74,17 @@ def quads(ws):
     return struct.pack("<%dQ" % len(ws), *ws)
 
 
-def record(file, tables, text, tree, clear, scratch, four):
+def record(file, tables, text, tree, clear, scratch, flags, four):
     ends, out = [], b""
     for part in [file] + [quads(t) for t in tables] + [text, tree, clear]:
         out += part
         ends.append(len(out))
-    return struct.pack("<9I4x4Q", *ends, scratch, *four) + out
+    return struct.pack("<9I2H4Q", *ends, scratch, *flags, *four) + out
 
 
-def refused(file, four):
-    return record(file, [[], [], [], []], b"", b"", b"", 0, four)
+def refused(name, file, four):
+    unfinalized.check_refused(name, file, four)
+    return record(file, [[], [], [], []], b"", b"", b"", 0, (0, 0), four)
 
 
 def accepted(name, file, w, text, tree):
@@ -87,8 +100,12 @@ def accepted(name, file, w, text, tree):
     showing = [x for x in listed if rows[x]]
     scratch, clear = recorded.clear_list(file, blocks, links, gaps)
     linked.check(name, file, scratch, clear)
+    flags = recorded.flag_words(file)
+    if any(flags):
+        clear = b""
+    unfinalized.check(name, file, flags, scratch, clear)
     places = [0, visited[-1], listed[-1], showing[-1] if showing else 0]
-    return record(file, [visited, blocks, links, gaps], text, tree, clear, scratch, places)
+    return record(file, [visited, blocks, links, gaps], text, tree, clear, scratch, flags, places)
 
 
 def sample(names):
@@ -103,27 +120,51 @@ def sample(names):
     return taken
 
 
+def put(o, count, name, parts, changed):
+    """Writes a recording with what is expected of it, and counts it; answers whether it is accepted and unfinalised."""
+    file, rows, text, tree = parts
+    w = words(rows)
+    is_unfinalized = w[0] == 0 and any(recorded.flag_words(file))
+    count["amended"] += changed
+    count["unfinalised"] += is_unfinalized
+    if w[0] == 0:
+        o.write(accepted(name, file, w, text, tree))
+        count["accepted"] += 1
+        count.update("kind %d" % k for k in set(w[5 + w[1] + 4:5 + w[1] + 12 * w[2]:12]))
+    elif w[0] == 1:
+        o.write(refused(name, file, w[1:5]))
+        count["refused %d" % w[1]] += 1
+    return is_unfinalized
+
+
+def put_finalized(o, count, oracle, amended, recordings):
+    """The same for each of the recordings with both words 0."""
+    with tempfile.TemporaryDirectory() as folder:
+        made = {"%04d" % i: (unfinalized.finalized(r),) for i, r in enumerate(recordings)}
+        linked.write(folder, made)
+        names = [os.path.join(folder, name + ".mf4") for name in made]
+        for parts, changed in expected(oracle, amended, names):
+            put(o, count, "", parts, changed)
+            count["finalised copies"] += 1
+
+
 def main():
-    pack, amended, names, out = sys.argv[1:5]
+    oracle, amended, names, out = sys.argv[1:5]
     names = open(names).read().split()
     taken = sample(names)
     count = collections.Counter()
+    again = []
     with open(out, "wb") as o:
-        for i, ((file, rows, text, tree), changed) in enumerate(expected(pack, amended)):
-            if names[i].endswith("deep_lists_512.mf4"):
-                text, tree = b"", b""
-            elif i not in taken or len(file) + len(rows) + len(text) + len(tree) > LARGEST:
+        for i, (parts, changed) in enumerate(expected(oracle, amended, names)):
+            name = names[i].rsplit("/", 1)[-1].removesuffix(".mf4")
+            if name == "deep_lists_512":
+                parts[2:] = b"", b""
+            elif i not in taken or sum(map(len, parts)) > LARGEST:
                 continue
-            w = words(rows)
-            count["amended"] += changed
-            if w[0] == 0:
-                o.write(accepted(names[i].rsplit("/", 1)[-1].removesuffix(".mf4"), file, w, text, tree))
-                count["accepted"] += 1
-                count.update("kind %d" % k for k in set(w[5 + w[1] + 4:5 + w[1] + 12 * w[2]:12]))
-            elif w[0] == 1:
-                o.write(refused(file, w[1:5]))
-                count["refused %d" % w[1]] += 1
-        o.write(refused(deep.lists(513), [15, 232 + 56 * 512, 512, 0]))
+            if put(o, count, name, parts, changed) and name not in unfinalized.MADE:
+                again.append(parts[0])
+        put_finalized(o, count, oracle, amended, again)
+        o.write(refused("", deep.lists(513), [15, 232 + 56 * 512, 512, 0]))
         count["refused 15"] += 1
     print(", ".join("%s: %d" % x for x in sorted(count.items())))
 

@@ -5,7 +5,8 @@
 
 ORACLE is the oracle's program: listings and trees are the Rust's, cut off by document 01's limits of the listing program (a
 recording of 65,536 bytes at most, 8,192 words for each table, 65,536 bytes of output). CLR bytes are drawn by the text of document 01
-and of document 02's order 1 (tools/recorded.py), and the refusals that the Rust has not are document 01's, worked out here.
+and of document 02's order 1 (tools/recorded.py), and the refusals that the Rust has not are those of document 01 and of document 02's
+order 4, worked out here.
 """
 import os
 import struct
@@ -15,6 +16,7 @@ import tempfile
 
 import deep
 import recorded
+import unfinalized
 
 BYTES, WORDS = 65536, 8192
 FOLDER = os.path.join("crates", "programs")
@@ -39,6 +41,7 @@ def recordings():
         "data_blocks_678": data_blocks(678),
         "data_blocks_679": data_blocks(679),
         "channels_400": deep.channels(400, 0),
+        "unfinalized_tree": unfinalized.MADE["unfinalized_tree"][0],
     }
 
 
@@ -63,7 +66,9 @@ def printed(recording, rows, text, tree):
     at = 5 + v + 12 * b
     scratch, clear = recorded.clear_list(recording, blocks, w[at:at + 2 * l], w[at + 2 * l:])
     assert 2 * scratch <= WORDS
-    return [x if len(x) <= BYTES else refused(14, 0, BYTES, len(x)) for x in (text, tree, clear)]
+    made = [x if len(x) <= BYTES else refused(14, 0, BYTES, len(x)) for x in (text, tree, clear)]
+    flags = recorded.flag_words(recording)
+    return made[:2] + [refused(16, 60, *flags)] if any(flags) else made
 
 
 def main():

@@ -8,7 +8,7 @@ the oracle's `--out` wrote for them (NAME.rows, and NAME.text and NAME.tree of a
 oracle's did (tools/amend.py): its answer counts where the Rust panics on a channel's name with a block_len under 24. The modules and
 Lib.antt go to crates/CRATE/proofs/. Each row is proved by computation, so a definition that answers otherwise is refused. The clear
 list, which the Rust has not, is drawn here from the rows by the text of document 01 and of document 02's order 1, apart from the
-definition.
+definition; that of an unfinalised recording is refusal 16 (order 4), with as much lent as its clear list would need.
 """
 import glob
 import os
@@ -135,6 +135,11 @@ def clear_list(r, blocks, links, gaps):
     return len(reads) + len(kept), b"CLR\1\0\0\0\0" + q(len(r)) + q(len(ranges)) + b"".join(q(a) + q(z) for a, z in ranges)
 
 
+def flag_words(r):
+    """The standard and custom unfinalized flags, which document 02's order 4 asks to be 0 before there is a clear list."""
+    return num(r, 60, 2), num(r, 62, 2)
+
+
 def rows_of(base):
     rows = open(base + ".rows", "rb").read()
     return struct.unpack("<%dQ" % (len(rows) // 8), rows)
@@ -147,15 +152,18 @@ def module(name, r, answers, amended):
     w = rows_of(base)
     assert w == rows_of(other), "the amended Rust differs"
     out = "-- %s.mf4, as %s answers it.\n" % (name, whose)
-    out += USES % (("ok", "lent, counts") if w[0] == 0 else ("err, refusal", "lent"))
+    flags = flag_words(r)
+    accepts = "ok, err, refusal" if any(flags) else "ok"
+    out += USES % ((accepts, "lent, counts") if w[0] == 0 else ("err, refusal", "lent"))
     out += "recording : List ℕ\nrecording =\n%s\n\n" % content(r)
 
-    def row(label, statement):
-        return "%s : %s\nunfolding computed recording\n%s = refl\n\n" % (label, statement, label)
+    def refused(label, entry, lent, four):
+        return "%s : %s (lent %d %d %d %d %d %d) recording\n    ≡ record { answer = err (refusal %d %d %d %d); visited = replicate %d 0; blocks = replicate %d 0;" \
+               " links = replicate %d 0; gaps = replicate %d 0; scratch = replicate %d 0; out = replicate %d 0 }\n" \
+               "unfolding computed recording\n%s = refl\n\n" % ((label, entry) + lent + four + lent + (label,))
     if w[0] == 1:
         for label, entry in (("layout", "layout-exit"), ("text", "to-text-exit"), ("tree", "to-tree-exit"), ("clear", "clear-list-exit")):
-            out += row(label, "%s (lent 999 9999 999 999 999 9) recording\n    ≡ record { answer = err (refusal %d %d %d %d); visited = replicate 999 0; blocks = replicate 9999 0;"
-                       " links = replicate 999 0; gaps = replicate 999 0; scratch = replicate 999 0; out = replicate 9 0 }" % ((entry,) + w[1:5]))
+            out += refused(label, entry, (999, 9999, 999, 999, 999, 9), w[1:5])
         return out.rstrip("\n") + "\n"
     v, b, l, g = w[1:5]
     p = 5
@@ -183,7 +191,10 @@ def module(name, r, answers, amended):
     out += "blocks : List ℕ\nblocks =\n%s\n\n" % exits(0)
     out += answer("layout", "layout-exit", 0, 0, "blocks", "    []")
     out += answer("text", "to-text-exit", 0, len(text), "blocks", content(text, 1))
-    out += answer("clear", "clear-list-exit", 2 * scratch, len(clr), "blocks", table(clr))
+    if any(flags):
+        out += refused("clear", "clear-list-exit", (v, 12 * b, 2 * l, 2 * g, 2 * scratch, len(clr)), (16, 60) + flags)
+    else:
+        out += answer("clear", "clear-list-exit", 2 * scratch, len(clr), "blocks", table(clr))
     out += "marked-blocks : List ℕ\nmarked-blocks =\n%s\n\n" % exits(1)
     out += answer("tree", "to-tree-exit", 0, len(tree), "marked-blocks", content(tree, 1))
     return out.rstrip("\n") + "\n"

@@ -8,11 +8,11 @@ use Rattle.fmt.specs.Text.{Wrote}
 use Rattle.fmt.proofs.Room as Room
 use Rattle.mdf4.specs.Act.{Refusal, refusal, Out, ok, err, and-then, check}
 use Rattle.mdf4.specs.Reads.{spared-ranges}
-use Rattle.mdf4.specs.Layout.{Layout, layout}
+use Rattle.mdf4.specs.Layout.{Layout, layout, finalized}
 use Rattle.mdf4.specs.Clear.{clear-ranges, clr-bytes}
 use Rattle.mdf4.specs.Listing.{to-text}
 use Rattle.mdf4.specs.Tree.{to-tree}
-use Rattle.mdf4.specs.Answers.{Lent, Counts, Exit, made, pair-words, counts, filled, exit, laid, room, fitted, layout-made, layout-exit, to-text-made, to-text-exit, to-tree-made, to-tree-exit, clear-list-made, clear-list-exit}
+use Rattle.mdf4.specs.Answers.{Lent, Counts, Exit, made, pair-words, counts, filled, exit, laid, laid-finalized, room, fitted, layout-made, layout-exit, to-text-made, to-text-exit, to-tree-made, to-tree-exit, clear-list-made, clear-list-exit}
 use Rattle.mdf4.proofs.Results.{never}
 use Rattle.blocks.specs.Errors.{numbers}
 use Rattle.blocks.specs.declared.error.MdfError.{MdfError}
@@ -26,7 +26,7 @@ use Rattle.file_layout.specs.declared.Laid.the-variants.{Tables, Refused}
 use Rattle.file_layout.specs.Tables.{lent, Zeroed, Filled, Stands, LaidMet}
 use Rattle.block_layout.specs.Entries.{exit-with, Long, Fits}
 
--- the answers of `lay`
+-- the answers of `lay` and `lay_finalized`
 module _ {n : Lent} {r v b l g : List ℕ} {x : Laid} where
   pub laid-tables : {asked : Out (Unit {0})} {nv nb nl ng : ℕ} → x ≡ Tables nv nb nl ng → LaidMet asked n r x v b l g → Stands asked n r nv nb nl ng v b l g
   laid-tables e m = let k = rw e at m in k .is
@@ -34,6 +34,14 @@ module _ {n : Lent} {r v b l g : List ℕ} {x : Laid} where
   pub laid-refused : {e : MdfError} → x ≡ Refused e → LaidMet (ok tt) n r x v b l g → laid n r ≡ err (numbers e)
   unfolding laid layout
   laid-refused e m = let k = rw e at m in k .is
+
+  pub finalized-refused : {e : MdfError} → x ≡ Refused e → LaidMet (finalized r) n r x v b l g → laid-finalized n r ≡ err (numbers e)
+  unfolding laid-finalized
+  finalized-refused e m = let k = rw e at m in k .is
+
+pub finalized-laid : {n : Lent} {r v b l g : List ℕ} {nv nb nl ng : ℕ} (t : Stands (finalized r) n r nv nb nl ng v b l g) → laid-finalized n r ≡ ok (t .layout)
+unfolding laid-finalized laid layout
+finalized-laid t = rw (t .granted) (t .is)
 
 -- tables and an output as long as those lent, zeroed: the exit of a refusal
 pub refused-exit : (n : Lent) {v b l g o v' b' l' g' o' : List ℕ} (e : Refusal) → Zeroed v b l g v' b' l' g' → o' ≡ replicate (length o) 0 → Long n v b l g o
@@ -124,11 +132,11 @@ module _ (n : Lent) (r : List ℕ) where
   abbrev clr : Layout → Out (List ℕ)
   clr y = and-then (room (n .scratch / pair-words) (length (spared-ranges r (y .state)))) (λ u. ok (clr-bytes (length r) (clear-ranges r y)))
 
-  pub clear-laid-refused : (e : Refusal) → laid n r ≡ err e → clear-list-exit n r ≡ exit n (err e)
+  pub clear-laid-refused : (e : Refusal) → laid-finalized n r ≡ err e → clear-list-exit n r ≡ exit n (err e)
   unfolding clear-list-exit clear-list-made and-then
   clear-laid-refused e h = rw h
 
-  pub clear-refused : (y : Layout) (e : Refusal) → laid n r ≡ ok y → clr y ≡ err e → clear-list-exit n r ≡ exit n (err e)
+  pub clear-refused : (y : Layout) (e : Refusal) → laid-finalized n r ≡ ok y → clr y ≡ err e → clear-list-exit n r ≡ exit n (err e)
   unfolding clear-list-exit clear-list-made and-then
   clear-refused y e h k = rw h (ap (exit n) (go (room (n .scratch / pair-words) (length (spared-ranges r (y .state)))) (clr-bytes (length r) (clear-ranges r y)) k))
     where
@@ -136,7 +144,7 @@ module _ (n : Lent) (r : List ℕ) where
       go (ok u) t q = never q
       go (err x) t q = let z : x ≡ e = cc in ap (λ (w : Refusal). err w) z
 
-  pub clear-made : (y : Layout) (t : List ℕ) → laid n r ≡ ok y → clr y ≡ ok t → clear-list-exit n r ≡ exit n (fitted (n .out) y [] t)
+  pub clear-made : (y : Layout) (t : List ℕ) → laid-finalized n r ≡ ok y → clr y ≡ ok t → clear-list-exit n r ≡ exit n (fitted (n .out) y [] t)
   unfolding clear-list-exit clear-list-made and-then
   clear-made y t h k = rw h (ap (exit n) (go (room (n .scratch / pair-words) (length (spared-ranges r (y .state)))) (clr-bytes (length r) (clear-ranges r y)) k))
     where

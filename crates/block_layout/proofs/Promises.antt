@@ -7,8 +7,9 @@ use mathlib.Core.List.{List}
 use Prim.Native.Nat.{ℕ}
 use Rattle.mdf4.specs.Act.{Refusal, ok, err}
 use Rattle.mdf4.specs.Answers.{Lent, Counts, Exit, layout-exit, to-text-exit, to-tree-exit, clear-list-exit}
-use Rattle.mdf4.specs.Demand3.{Alike, Again, Tables, Cleared}
+use Rattle.mdf4.specs.Demand3.{Alike, Again, Tables, Cleared, Finalizing, Unasked}
 use Rattle.mdf4.proofs.Results.{never}
+use Rattle.mdf4.proofs.Finalized.{finalizing, layout-unasked, to-text-unasked, to-tree-unasked}
 use Rattle.mdf4.proofs.Demand3 as law
 use Rattle.blocks.specs.Errors.{numbers}
 use Rattle.blocks.proofs.Errors as errors
@@ -69,11 +70,30 @@ module _ (n : Lent) (r : List ℕ) (a : Answer) (v b l g s o : List ℕ) (c : Co
   -- The clear list (`Cleared`). Its output is the CLR bytes of ranges; a byte is in one of them exactly when it lies in a gap and is
   -- neither read nor kept; and no list of ranges that holds the same bytes is shorter. Document 02, order 1, of every row of the link
   -- table: where its target is not 0, the mark there starts with ## and 24 bytes lie inside the file, these are read, and no byte up to
-  -- target + block_len is in a range.
+  -- target + block_len is in a range. Order 4: the recording's bytes 60 to 63 are 0.
   pub clear-list-cleared : left a v b l g s o ≡ clear-list-exit n r → Cleared n r (left a v b l g s o) c
   clear-list-cleared p =
       let e : clear-list-exit n r .answer ≡ ok c = ap (λ (x : Exit). x .answer) (sym p) ∙ answer-is a v b l g s o ∙ accepted in
       rw p (law.cleared n r c e)
+
+-- Document 02, order 4, of every call, accepted or refused, with whatever is lent. The clear list (`Finalizing`): a refusal of the walk
+-- comes first; behind the walk, the answer is 16 with the two words exactly if one of the bytes 60 to 63 is not 0. The other entries
+-- never answer 16.
+module _ (n : Lent) (r : List ℕ) (a : Answer) (v b l g s o : List ℕ) where
+  pub clear-list-finalizing : left a v b l g s o ≡ clear-list-exit n r → Finalizing n r (answered a)
+  clear-list-finalizing p = rw (← answer-is a v b l g s o, p) (finalizing n r)
+
+  never-16 : (entry : Lent → List ℕ → Exit) → Unasked entry → left a v b l g s o ≡ entry n r → (z : Refusal) → answered a ≡ err z → z .number ≡ 16 → ⊥
+  never-16 entry u p z e = u .never-16 n r z (ap (λ (x : Exit). x .answer) (sym p) ∙ answer-is a v b l g s o ∙ e)
+
+  pub layout-never-16 : left a v b l g s o ≡ layout-exit n r → (z : Refusal) → answered a ≡ err z → z .number ≡ 16 → ⊥
+  layout-never-16 = never-16 layout-exit layout-unasked
+
+  pub to-text-never-16 : left a v b l g s o ≡ to-text-exit n r → (z : Refusal) → answered a ≡ err z → z .number ≡ 16 → ⊥
+  to-text-never-16 = never-16 to-text-exit to-text-unasked
+
+  pub to-tree-never-16 : left a v b l g s o ≡ to-tree-exit n r → (z : Refusal) → answered a ≡ err z → z .number ≡ 16 → ⊥
+  to-tree-never-16 = never-16 to-tree-exit to-tree-unasked
 
 -- No call answers 8 (document 02, order 2).
 pub never-8 : (a : Answer) {e : Refusal} → answered a ≡ err e → e .number ≡ 8 → ⊥

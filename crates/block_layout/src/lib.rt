@@ -16,6 +16,7 @@ use clear_ranges::Cleared;
 use clear_ranges::put_clear_list;
 use file_layout::Laid;
 use file_layout::lay;
+use file_layout::lay_finalized;
 use file_layout::zero_tables;
 use tables::zero_bytes;
 use tables::zero_words;
@@ -182,7 +183,7 @@ pub fn to_tree(
     }
 }
 
-// The clear list, with the scratch table left free.
+// The clear list of a finalised recording, with the scratch table left free.
 fn clear_bytes(
     data: &[u8],
     visited: &mut [u64],
@@ -196,7 +197,7 @@ fn clear_bytes(
     ensures fits { λ r. ⌜ Fits r (length (now (out .entry))) ⌝ }
 {
     zero_bytes(out);
-    let laid = lay(data, visited, blocks, links, gaps);
+    let laid = lay_finalized(data, visited, blocks, links, gaps);
     match laid {
         Laid::Tables {
             visited: v,
@@ -216,7 +217,7 @@ fn clear_bytes(
     }
 }
 
-// The clear list: its bytes in the output. The scratch table ends zero.
+// The clear list: its bytes in the output. An unfinalised recording is refused (document 02, order 4). The scratch table ends zero.
 pub fn clear_list(
     data: &[u8],
     visited: &mut [u64],

@@ -2,7 +2,7 @@
 use mathlib.Core.Path.{_≡_}
 use native.Mathlib.Omega.{arith}
 use Rattle.blocks.specs.declared.error.MdfError.{MdfError}
-use Rattle.blocks.specs.declared.error.MdfError.the-variants.{TooShortBuffer, FileIdentifierError, InvalidVersionString, FileVersioningError, BlockIDError, BlockSerializationError, SumOverflow, Conversion, VisitedFull, BlocksFull, LinksFull, TableTooShort, OutputTooShort, TooDeep}
+use Rattle.blocks.specs.declared.error.MdfError.the-variants.{TooShortBuffer, FileIdentifierError, InvalidVersionString, FileVersioningError, BlockIDError, BlockSerializationError, SumOverflow, Conversion, VisitedFull, BlocksFull, LinksFull, TableTooShort, OutputTooShort, TooDeep, Unfinalized}
 use Rattle.blocks.specs.Errors.{numbers}
 
 pub never-8 : (e : MdfError) → numbers e .number ≡ 8 → ⊥
@@ -20,3 +20,4 @@ never-8 (LinksFull place lent) h = omega arith
 never-8 (TableTooShort lent needed) h = omega arith
 never-8 (OutputTooShort lent needed) h = omega arith
 never-8 (TooDeep place limit) h = omega arith
+never-8 (Unfinalized standard custom) h = omega arith

@@ -1,8 +1,8 @@
--- Document 01's number, place, a and b of each refusal.
+-- The papers' number, place, a and b of each refusal.
 use Rattle.mdf4.specs.Act.{Refusal, refusal}
 use Rattle.blocks.specs.declared.error.Refusal as declared
 use Rattle.blocks.specs.declared.error.MdfError.{MdfError}
-use Rattle.blocks.specs.declared.error.MdfError.the-variants.{TooShortBuffer, FileIdentifierError, InvalidVersionString, FileVersioningError, BlockIDError, BlockSerializationError, SumOverflow, Conversion, VisitedFull, BlocksFull, LinksFull, TableTooShort, OutputTooShort, TooDeep}
+use Rattle.blocks.specs.declared.error.MdfError.the-variants.{TooShortBuffer, FileIdentifierError, InvalidVersionString, FileVersioningError, BlockIDError, BlockSerializationError, SumOverflow, Conversion, VisitedFull, BlocksFull, LinksFull, TableTooShort, OutputTooShort, TooDeep, Unfinalized}
 
 abbrev pub numbers : MdfError → Refusal
 numbers (TooShortBuffer place expected actual) = refusal 1 place expected actual
@@ -19,6 +19,7 @@ numbers (LinksFull place lent) = refusal 12 place lent 0
 numbers (TableTooShort lent needed) = refusal 13 0 lent needed
 numbers (OutputTooShort lent needed) = refusal 14 0 lent needed
 numbers (TooDeep place limit) = refusal 15 place limit 0
+numbers (Unfinalized standard custom) = refusal 16 60 standard custom
 
 -- the four numbers as the code has them
 abbrev pub refusal-of : declared.Refusal → Refusal

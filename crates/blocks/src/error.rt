@@ -1,5 +1,5 @@
-// What refuses a call: the Rust's variants where it has them, and ours for its panics, for conversions and for limits. The
-// definition `numbers` of specs/Errors.antt gives document 01's number, place, a and b of each.
+// What refuses a call: the Rust's variants where it has them, and ours for its panics, for conversions, for limits and for document
+// 02's orders. The definition `numbers` of specs/Errors.antt gives the papers' number, place, a and b of each.
 ghost use mathlib.Core.Path.{_≡_};
 ghost use Rattle.mdf4.specs.Act as spec;
 ghost use Rattle.blocks.specs.Errors.{numbers, refusal-of};
@@ -62,6 +62,11 @@ pub enum MdfError {
         place: u64,
         limit: u64,
     },
+    // the identification's two words of unfinalized flags
+    Unfinalized {
+        standard: u64,
+        custom: u64,
+    },
 }
 
 // Document 01's four numbers of a refusal.
@@ -114,6 +119,7 @@ impl MdfError {
             MdfError::TableTooShort { lent, needed } => four(13, 0, lent, needed),
             MdfError::OutputTooShort { lent, needed } => four(14, 0, lent, needed),
             MdfError::TooDeep { place, limit } => four(15, place, limit, 0),
+            MdfError::Unfinalized { standard, custom } => four(16, 60, standard, custom),
         }
     }
 }

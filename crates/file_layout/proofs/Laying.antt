@@ -10,13 +10,14 @@ use lib.Seq.{length-take-le}
 use borrow.Author.Tests.{le-leb, lt-leb}
 use Rattle.fmt.proofs.Room.{drop-replicate}
 use Rattle.mdf4.specs.Bytes.{Range, concat-map}
-use Rattle.mdf4.specs.Act.{refusal, Result, Out, ok, err, and-then, check, Stop, Row, State, reason}
+use Rattle.mdf4.specs.Act.{Refusal, refusal, Result, Out, ok, err, and-then, check, Stop, Row, State, reason}
 use Rattle.mdf4.specs.Walk.{walk, start}
 use Rattle.mdf4.specs.Layout.{insert, sort, compute-gaps, Layout, layout-of, walk-state, gaps-fitted, layout-if, layout}
 use Rattle.mdf4.specs.Demand3.{ranges-in}
 use Rattle.mdf4.specs.Answers.{Lent, limits, block-row-words, pair-words, row-words, link-words, range-words, filled, laid}
 use Rattle.mdf4.proofs.Walk.{walk-inv}
 use Rattle.mdf4.proofs.Laid.{state-walked}
+use Rattle.mdf4.proofs.Finalized.{whole}
 use Rattle.tables.specs.Rows.{held-rows, held-links}
 use Rattle.tables.specs.Blocks.{Ordered}
 use Rattle.tables.specs.Gaps.{Listed}
@@ -29,7 +30,8 @@ use Rattle.walk_state.specs.declared.Walked.the-variants.{On, Refused}
 use Rattle.walk_state.proofs.Start.{none, held-none, within-none}
 use Rattle.blocks.specs.Errors.{numbers}
 use Rattle.blocks.specs.declared.error.MdfError.{MdfError}
-use Rattle.file_layout.specs.Tables.{lent, Zeroed, Walks, WalkMet, Stands}
+use Rattle.file_layout.specs.declared.Laid.{Laid}
+use Rattle.file_layout.specs.Tables.{lent, Zeroed, Walks, WalkMet, Stands, LaidMet}
 
 -- an answer of the walk, without its stopping block
 said-state : (m : Result Stop (Unit {0} × State)) (o : Out State) → said m ≡ o → and-then (reason m) (λ p. ok (p .1)) ≡ o
@@ -100,6 +102,18 @@ module _ {n : Lent} {r v b l g : List ℕ} {x : Walked} where
   pub walk-refused : (asked : Out (Unit {0})) {e : MdfError} → x ≡ Refused e → WalkMet n r x v b l g → layout-if asked (limits n) (n .gaps / pair-words) r ≡ err (numbers e)
   unfolding layout-if and-then
   walk-refused asked e m = let k = rw e at m in rw (k .is)
+
+-- what an entry asks behind the walk is refused, or granted
+module _ {n : Lent} {r v b l g : List ℕ} {w : Walk} (k : Walks n r w v b l g) where
+  pub asked-refused : {asked : Out (Unit {0})} {e : Refusal} → asked ≡ err e → layout-if asked (limits n) (n .gaps / pair-words) r ≡ err e
+  unfolding layout-if and-then
+  asked-refused h = rw (k .is, h)
+
+  pub identified : 64 ≤ length r
+  identified = whole n r (held w v b l) (k .is)
+
+pub granted : {asked : Out (Unit {0})} {n : Lent} {r v b l g : List ℕ} {x : Laid} → asked ≡ ok tt → LaidMet (ok tt) n r x v b l g → LaidMet asked n r x v b l g
+granted h m = rw h m
 
 -- the walk went through to w, the rows are ordered and the gaps are listed
 module _ {n : Lent} {r v b l g b3 g3 : List ℕ} {w : Walk} {count : ℕ} (k : Walks n r w v b l g)

@@ -5,9 +5,12 @@ ghost use mathlib.Core.List.{List};
 ghost use Prim.Native.Nat.{ℕ, _*_, _≤_};
 ghost use lib.ListN.{length};
 ghost use Rattle.mdf4.specs.Act.{ok};
+ghost use Rattle.mdf4.specs.Layout.{finalized};
 ghost use Rattle.mdf4.specs.Answers.{Lent, block-row-words};
 ghost use Rattle.file_layout.specs.Tables.{lent, Zeroed, Walks, WalkMet, LaidMet};
 use blocks::error::MdfError;
+use finalized::Finalized;
+use finalized::check_finalized;
 use tables::PAIR_WORDS;
 use tables::list_gaps;
 use tables::order_blocks;
@@ -82,7 +85,7 @@ pub fn lay_gaps(len: u64, blocks: &mut [u64], gaps: &mut [u64], w: Walk) -> Laid
     }
 }
 
-// What every entry begins with; none asks anything besides.
+// What layout, listing and tree begin with: they ask nothing besides.
 pub fn lay(
     data: &[u8],
     visited: &mut [u64],
@@ -96,5 +99,28 @@ pub fn lay(
     match r {
         Walked::Refused(e) => Laid::Refused(e),
         Walked::On(w) => lay_gaps(data.len() as u64, blocks, gaps, w),
+    }
+}
+
+// What the clear list begins with: the recording must be finalised (document 02, order 4).
+pub fn lay_finalized(
+    data: &[u8],
+    visited: &mut [u64],
+    blocks: &mut [u64],
+    links: &mut [u64],
+    gaps: &mut [u64],
+) -> Laid
+    ensures { λ r. ⌜ ((scratch out : ℕ) → LaidMet (finalized (now («data» .entry))) (lent (now (visited .entry)) (now (blocks .entry)) (now (links .entry)) (now (gaps .entry)) scratch out) (now («data» .entry)) r (now (visited .exit)) (now (blocks .exit)) (now (links .exit)) (now (gaps .exit))) ⌝ }
+{
+    let r = walk_file(data, visited, blocks, links, gaps);
+    match r {
+        Walked::Refused(e) => Laid::Refused(e),
+        Walked::On(w) => {
+            let flags = check_finalized(data);
+            match flags {
+                Finalized::Refused(e) => Laid::Refused(e),
+                Finalized::Yes => lay_gaps(data.len() as u64, blocks, gaps, w),
+            }
+        }
     }
 }

@@ -17,7 +17,7 @@ use Rattle.mdf4.specs.Describe.{name-text}
 use Rattle.mdf4.specs.Tree.{Edge, render-tree-node}
 use Rattle.mdf4.specs.Answers.{layout-exit, to-text-exit, to-tree-exit, clear-list-exit}
 use Rattle.mdf4.proofs.Computed.{computed}
-use Rattle.mdf4.proofs.Recordings.{lent, block, identification, header, L}
+use Rattle.mdf4.proofs.Recordings.{lent, counts, block, identification, header, L}
 use Rattle.mdf4.proofs.WorkedRows.{L-rows}
 
 -- 63 bytes, and a valid identification alone
@@ -142,6 +142,49 @@ short-name-read = refl
 pub long-name-refused : layout-exit (lent 6 72 48 2 0 0) (short-name (2 ^ 64 - 496)) .answer ≡ err (refusal 7 496 496 (2 ^ 64 - 496))
 unfolding computed identification header one-channel short-block short-name
 long-name-refused = refl
+
+-- Document 02, order 4: a clear list is refused where the u16 at 60 or the one at 62 is not 0. Here the header is the last block, and
+-- one byte stands behind it: a gap, two scratch rows and 40 bytes of output are needed.
+unfoldable pub flagged : List ℕ → List ℕ
+flagged flags = ascii "MDF     4.10    console1" ++ replicate 4 0 ++ le-bytes 2 410 ++ replicate 30 0 ++ flags ++ header (replicate 48 0) ++ 7 ∷ []
+
+pub flags-standard : clear-list-exit (lent 2 24 12 2 4 40) (flagged (1 ∷ 0 ∷ 0 ∷ 0 ∷ []))
+    ≡ record { answer = err (refusal 16 60 1 0); visited = replicate 2 0; blocks = replicate 24 0; links = replicate 12 0; gaps = replicate 2 0; scratch = replicate 4 0; out = replicate 40 0 }
+unfolding computed header flagged
+flags-standard = refl
+
+pub flags-custom : clear-list-exit (lent 2 24 12 2 4 40) (flagged (0 ∷ 0 ∷ 1 ∷ 0 ∷ [])) .answer ≡ err (refusal 16 60 0 1)
+unfolding computed header flagged
+flags-custom = refl
+
+-- a is the first word, b the second, each with its high byte
+pub flags-both : clear-list-exit (lent 2 24 12 2 4 40) (flagged (5 ∷ 0x80 ∷ 0 ∷ 1 ∷ [])) .answer ≡ err (refusal 16 60 0x8005 0x100)
+unfolding computed header flagged
+flags-both = refl
+
+-- it comes before 13 of the gap table, 13 of the scratch table and 14
+pub flags-no-gaps : clear-list-exit (lent 2 24 12 0 0 0) (flagged (0 ∷ 0 ∷ 0 ∷ 1 ∷ [])) .answer ≡ err (refusal 16 60 0 0x100)
+unfolding computed header flagged
+flags-no-gaps = refl
+
+pub no-flags-no-gaps : clear-list-exit (lent 2 24 12 0 0 0) (flagged (replicate 4 0)) .answer ≡ err (refusal 13 0 0 1)
+unfolding computed header flagged
+no-flags-no-gaps = refl
+
+-- and after the walk
+pub flags-walk : clear-list-exit (lent 1 24 12 2 4 40) (flagged (1 ∷ 0 ∷ 1 ∷ 0 ∷ [])) .answer ≡ err (refusal 10 64 1 0)
+unfolding computed header flagged
+flags-walk = refl
+
+-- the others take such a recording
+pub flags-layout : layout-exit (lent 2 24 12 2 0 0) (flagged (5 ∷ 0x80 ∷ 0 ∷ 1 ∷ [])) .answer ≡ ok (counts 2 2 6 1 0)
+unfolding computed header flagged
+flags-layout = refl
+
+-- byte 59 is no flag
+pub no-flags : clear-list-exit (lent 2 24 12 2 4 40) (ascii "MDF     4.10    console1" ++ replicate 4 0 ++ le-bytes 2 410 ++ replicate 29 0 ++ 7 ∷ replicate 4 0 ++ header (replicate 48 0) ++ 7 ∷ []) .answer ≡ ok (counts 2 2 6 1 40)
+unfolding computed header
+no-flags = refl
 
 -- Where document 01 is silent, the Rust decides (docs/DECISIONS.md): a version loses trailing NULs first, then White_Space
 pub version-nul-space : version (ascii "4.10" ++ 0 ∷ 32 ∷ 32 ∷ 32 ∷ []) ≡ err (refusal 3 8 3 0)

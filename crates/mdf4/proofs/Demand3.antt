@@ -10,16 +10,17 @@ use Rattle.mdf4.specs.Act.{Row, Link, Out, ok, err, State}
 use Rattle.mdf4.specs.Kinds.{null}
 use Rattle.mdf4.specs.Walk.{walk, start}
 use Rattle.mdf4.specs.Reads.{spared-ranges}
-use Rattle.mdf4.specs.Layout.{Layout, walk-state, layout, extent}
+use Rattle.mdf4.specs.Layout.{Layout, walk-state, layout, extent, finalized}
 use Rattle.mdf4.specs.Clear.{clear-ranges, clr-bytes}
 use Rattle.mdf4.specs.Listing.{to-text}
 use Rattle.mdf4.specs.Tree.{to-tree}
-use Rattle.mdf4.specs.Answers.{Lent, Counts, Exit, Made, made, exit, laid, limits, fitted, room, counts, filled, layout-made, to-text-made, to-tree-made, clear-list-made, layout-exit, to-text-exit, to-tree-exit, clear-list-exit, row-words, link-words, range-words, block-row-words, pair-words}
+use Rattle.mdf4.specs.Answers.{Lent, Counts, Exit, Made, made, exit, laid, laid-finalized, limits, fitted, room, counts, filled, layout-made, to-text-made, to-tree-made, clear-list-made, layout-exit, to-text-exit, to-tree-exit, clear-list-exit, row-words, link-words, range-words, block-row-words, pair-words}
 use Rattle.mdf4.specs.Demand3.{Again, Alike, Tables, Cleared, Block, Spared, read, read-by, kept, kept-by, ranges-in, offsets, extents-in, gaps-in, targets-in}
 use Rattle.mdf4.proofs.Results.{never, and-then-ok, check-ok}
 use Rattle.mdf4.proofs.Reading.{Agree}
-use Rattle.mdf4.proofs.Walk.{walk-again}
-use Rattle.mdf4.proofs.Laid.{walked, state-is, walked-state, ascending, partition, each-gap, gaps-add-up, clear-neither, block-header, block-not-clear, clear-apart, clear-fewest}
+use Rattle.mdf4.proofs.Walk.{walk-again, walk-id-whole}
+use Rattle.mdf4.proofs.Laid.{walked, state-is, walked-state, granted, ascending, partition, each-gap, gaps-add-up, clear-neither, block-header, block-not-clear, clear-apart, clear-fewest}
+use Rattle.mdf4.proofs.Finalized.{finalized-zeros}
 use Rattle.mdf4.proofs.Order.{Above, Rising}
 use Rattle.mdf4.proofs.Texts.{Shared, shared, layout-exit-same, to-text-exit-same, to-tree-exit-same, clear-list-exit-same}
 
@@ -40,6 +41,11 @@ exit-ok n (err z) c e = never (sym e)
 fitted-ok : (n : ℕ) (y : Layout) (v t : List ℕ) (x : Made) → fitted n y v t ≡ ok x → made y v t ≡ x
 unfolding fitted
 fitted-ok n y v t x e = let q = check-ok _ _ _ _ e .1 in cc
+
+-- a recording that is laid out as a finalised one is finalised, and laid out
+finalized-is : (n : Lent) (r : List ℕ) (y : Layout) → laid-finalized n r ≡ ok y → (finalized r ≡ ok tt) × (laid n r ≡ ok y)
+unfolding laid-finalized laid
+finalized-is n r y e = granted (finalized r) (limits n) (n .gaps / pair-words) r y e
 
 module _ (n : Lent) (r : List ℕ) (c : Counts) where
   layout-accepted : layout-exit n r .answer ≡ ok c → Accepted n r (layout-made n r) c
@@ -67,16 +73,19 @@ module _ (n : Lent) (r : List ℕ) (c : Counts) where
       let z = fitted-ok (n .out) (q .0) (p .0 .1) (p .0 .0) (x .0) (p .2) in
       record { y = q .0; printed = p .0 .1; text = p .0 .0; laid-is = q .1; made-is = x .1 ∙ ap ok (sym z); counted = ap counts z ∙ x .2 }
 
-  -- the text is the CLR bytes of the layout's clear ranges
-  clear-list-accepted : clear-list-exit n r .answer ≡ ok c → (a : Accepted n r (clear-list-made n r) c) × (a .text ≡ clr-bytes (length r) (clear-ranges r (a .y)))
+  -- the text is the CLR bytes of the layout's clear ranges, and the recording is finalised
+  clear-list-accepted : clear-list-exit n r .answer ≡ ok c
+      → (a : Accepted n r (clear-list-made n r) c) × (a .text ≡ clr-bytes (length r) (clear-ranges r (a .y))) × (finalized r ≡ ok tt)
   unfolding clear-list-exit clear-list-made
   clear-list-accepted e =
       let x = exit-ok n (clear-list-made n r) c e in
-      let q = and-then-ok (laid n r) _ (x .0) (x .1) in
+      let q = and-then-ok (laid-finalized n r) _ (x .0) (x .1) in
+      let f = finalized-is n r (q .0) (q .1) in
       let p = and-then-ok (room (n .scratch / pair-words) (length (spared-ranges r (q .0 .state)))) _ (x .0) (q .2) in
       let z = fitted-ok (n .out) (q .0) [] (clr-bytes (length r) (clear-ranges r (q .0))) (x .0) (p .2) in (
-        record { y = q .0; printed = []; text = clr-bytes (length r) (clear-ranges r (q .0)); laid-is = q .1; made-is = x .1 ∙ ap ok (sym z); counted = ap counts z ∙ x .2 },
+        record { y = q .0; printed = []; text = clr-bytes (length r) (clear-ranges r (q .0)); laid-is = f .1; made-is = x .1 ∙ ap ok (sym z); counted = ap counts z ∙ x .2 },
         refl,
+        f .0,
       )
 
 -- Two recordings
@@ -228,11 +237,13 @@ cleared n r c e =
     let p = clear-list-accepted n r c (unfold clear-list-exit in e) in
     let a = p .0 in
     let i = is n r (clear-list-made n r) c a in
+    let w = walked (limits n) (n .gaps / pair-words) r (a .y) i in
     record {
       ranges = clear-ranges r (a .y);
       written = written n r (clear-list-made n r) c a ∙ p .1;
       exact = λ j. rw (gaps-in-are n r (clear-list-made n r) c a, a .laid-is) (clear-neither (limits n) (n .gaps / pair-words) r (a .y) i j);
       spares = λ j l. rw (target-is n r (clear-list-made n r) c a j) (spared n r (a .y) (a .laid-is) i j (rw (← links-are n r (clear-list-made n r) c a) l));
+      finalized = finalized-zeros r (walk-id-whole (limits n) r (w .0) (w .1)) (p .2);
       apart = clear-apart (limits n) (n .gaps / pair-words) r (a .y) i;
       fewest = clear-fewest (limits n) (n .gaps / pair-words) r (a .y) i;
     }

@@ -16,7 +16,7 @@ use Rattle.mdf4.specs.Walk.{row-of, push, after-reading, list-block, ent
 use Rattle.mdf4.specs.Reads.{row-ranges, ranges-at, links-at, read-ranges}
 use Rattle.mdf4.proofs.Bytes.{or-left, or-right, or-none}
 use Rattle.mdf4.proofs.Results.{and-then-ok, check-ok, ok-both, never}
-use Rattle.mdf4.proofs.Reading.{row-links, row-links-snoc, Reads, Agree, within-in, old-reads, row-read, link-read, read-is, read-inside, after-is, read-same, head-same, links-same, name-ok-same}
+use Rattle.mdf4.proofs.Reading.{row-links, row-links-snoc, Reads, Agree, within-in, old-reads, row-read, link-read, read-is, read-inside, read-whole, after-is, read-same, head-same, links-same, name-ok-same}
 use Rattle.mdf4.proofs.Lists.{All, all-append}
 
 -- lists of offsets
@@ -363,6 +363,17 @@ pub enter-listed : (k : Kind) (a : ℕ) (h : RecordLayout) (r : List ℕ) (s : S
 unfolding pushed push row-of
 enter-listed k a h r s x s' e =
     rw (its-state k a h r s x s' e, offs-snoc, elem-snoc) (or-right (elem a (offs (s .rows))) _ (eq-eqb a a refl))
+
+-- its own bytes lie inside the recording, and are among what was read
+pub enter-whole : (k : Kind) (a : ℕ) (h : RecordLayout) (r : List ℕ) (s : State) (x : List ℕ × List Link) (s' : State) → enter k a h r s ≡ ok (x, s')
+    → a + read-len k r a ≤ length r
+enter-whole k a h r s x s' e = read-whole k r a (block-bytes k a h r s) (its-own k a h r s x s' e)
+
+pub enter-reads : (k : Kind) (a : ℕ) (h : RecordLayout) (r : List ℕ) (s : State) (x : List ℕ × List Link) (s' : State) → enter k a h r s ≡ ok (x, s')
+    → (i : ℕ) → a ≤ i → i < a + read-len k r a → Reads r s' i
+unfolding pushed ranges-at row-of
+enter-reads k a h r s x s' e i m u =
+    rw (its-state k a h r s x s' e) (row-read r k (row-of k a h s (block-bytes k a h r s) (own-links k a h r s)) (own-links k a h r s) s i (within-in i a (read-len k r a) m u _))
 
 pub good-enter : (k : Kind) (a : ℕ) (h : RecordLayout) → Good (Ready a) (enter k a h)
 good-enter k a h = record { went = λ r s x s' e. good-enter-at k a h r s x s' e }

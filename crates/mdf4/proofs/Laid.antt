@@ -8,7 +8,7 @@ use lib.Dec.{ltb, eqb}
 use lib.ListN.{length, getD}
 use borrow.Author.Tests.{ltb-true, ltb-false, eqb-true, lt-ltb, le-ltb, le-leb}
 use Rattle.mdf4.specs.Bytes.{num, Range, inside, bit, count}
-use Rattle.mdf4.specs.Act.{ok, and-then, Row, State, Limits, elem, reason}
+use Rattle.mdf4.specs.Act.{Out, ok, and-then, Row, State, Limits, elem, reason}
 use Rattle.mdf4.specs.Kinds.{null}
 use Rattle.mdf4.specs.Walk.{walk, start}
 use Rattle.mdf4.specs.Reads.{read-ranges, kept-ranges, spared-ranges}
@@ -58,6 +58,14 @@ walked-state lim r s e = rw e
 fitted-is : (lent : ℕ) (y y' : Layout) → gaps-fitted lent y ≡ ok y' → y' ≡ y
 unfolding gaps-fitted
 fitted-is lent y y' e = let q = check-ok _ _ _ _ e .1 in cc
+
+-- where an entry asks more and accepts, it was granted, and the layout is that of an entry which asks nothing
+pub granted : (asked : Out (Unit {0})) (lim : Limits) (lent : ℕ) (r : List ℕ) (y : Layout) → layout-if asked lim lent r ≡ ok y → (asked ≡ ok tt) × (layout lim lent r ≡ ok y)
+unfolding layout layout-if and-then
+granted asked lim lent r y e =
+    let p = and-then-ok (walk-state lim r) _ y e in
+    let q = and-then-ok asked _ y (p .2) in
+    (q .1, rw (p .1) (q .2))
 
 module _ (lim : Limits) (lent : ℕ) (r : List ℕ) (y : Layout) (e : layout lim lent r ≡ ok y) where
   -- an accepted recording was walked, and its layout is the state's

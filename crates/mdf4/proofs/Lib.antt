@@ -12,6 +12,8 @@ pub mod Runs
 pub mod Fields
 pub mod Linked
 pub mod Laid
+pub mod Numbers
+pub mod Finalized
 pub mod Texts
 pub mod ShortNames
 pub mod Tree

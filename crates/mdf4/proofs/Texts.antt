@@ -4,23 +4,24 @@ use mathlib.Core.Path.{_≡_, refl, ap}
 use mathlib.Core.Bool.{cond, Bool, true, false}
 use mathlib.Core.List.{List, [], _∷_}
 use Prim.Native.Nat.{ℕ, zero, suc, _+_, _/_, _<_}
+use native.Mathlib.Omega.{arith}
 use lib.Dec.{leb, eqb}
 use lib.ListN.{length, getD}
-use Rattle.mdf4.specs.Bytes.{bytes, within, inside, concat-map}
+use Rattle.mdf4.specs.Bytes.{bytes, num, within, inside, concat-map}
 use Rattle.mdf4.specs.Act.{Refusal, refusal, Result, Out, ok, err, and-then, check, Kind, CN, Row, Link, State, Limits, elem}
 use Rattle.mdf4.specs.Kinds.{read-len, is, name-link, name-is-text, name-len, name-head}
 use Rattle.mdf4.specs.Walk.{walk, start}
 use Rattle.mdf4.specs.Reads.{name-ranges, named-ranges, link-ranges, links-at, ranges-at, row-ranges, read-ranges, spared-ranges}
-use Rattle.mdf4.specs.Layout.{insert, sort, Layout, layout-of, walk-state, gaps-fitted, layout-if, layout}
+use Rattle.mdf4.specs.Layout.{insert, sort, Layout, layout-of, walk-state, gaps-fitted, layout-if, layout, finalized}
 use Rattle.mdf4.specs.Clear.{clear-ranges}
 use Rattle.mdf4.specs.Describe.{name-bytes, block-bytes, row-name, describe, extra-line}
 use Rattle.mdf4.specs.Listing.{row-lines, block-links, links-of, to-text}
 use Rattle.mdf4.specs.Tree.{Edge, root, Child, child-at, child-of, children, Printed, render-children, node-line, node-by, render-tree-node, root-by, roots, to-tree, max-levels}
-use Rattle.mdf4.specs.Answers.{Lent, limits, laid, exit, layout-made, to-text-made, to-tree-made, clear-list-made, layout-exit, to-text-exit, to-tree-exit, clear-list-exit, pair-words}
+use Rattle.mdf4.specs.Answers.{Lent, limits, laid, laid-finalized, exit, layout-made, to-text-made, to-tree-made, clear-list-made, layout-exit, to-text-exit, to-tree-exit, clear-list-exit, pair-words}
 use Rattle.mdf4.proofs.Bytes.{inside-append, or-left, or-right, bytes-agree, concat-map-inside}
 use Rattle.mdf4.proofs.Reading.{row-links, Agree, within-in, read-len-same, block-bytes-same, links-at-same, name-head-same, own-agree, spared-ranges-same}
 use Rattle.mdf4.proofs.Lists.{All, all-append, all-map}
-use Rattle.mdf4.proofs.Walk.{walk-inv}
+use Rattle.mdf4.proofs.Walk.{walk-inv, walk-id-reads}
 
 all-insert : (P : Row → Type 0) (w : Row) (vs : List Row) → P w → All P vs → All P (insert w vs)
 unfolding insert
@@ -187,14 +188,18 @@ module _ (r r' : List ℕ) (y : Layout) (size : length r ≡ length r') (h : All
 -- What two recordings share at the state in which the first one's walk ends: all that an entry takes from them.
 pub record Shared (r r' : List ℕ) (s : State) : Type 0 where
   pub size : length r ≡ length r'
+  pub finalized : finalized r ≡ finalized r'
   pub told : All (Told r r') (s .rows)
   pub spared : spared-ranges r s ≡ spared-ranges r' s
 
--- recordings that agree on what the first one reads share it
+-- recordings that agree on what the first one reads share it: the flags that tell a finalised recording are among the ID's bytes
 pub shared : (lim : Limits) (r r' : List ℕ) (s : State) → walk r (start lim) ≡ ok (tt, s) → Agree r r' s → Shared r r' s
+unfolding finalized num
 shared lim r r' s e c =
     let t = walk-inv lim r s e .table in
-    record { size = c .size; told = state-told r r' s t c; spared = spared-ranges-same r r' s t c }
+    let p = bytes-agree r r' 60 2 (c .size) (λ i l m u. c .at i l (walk-id-reads lim r s e i (omega arith))) in
+    let q = bytes-agree r r' 62 2 (c .size) (λ i l m u. c .at i l (walk-id-reads lim r s e i (omega arith))) in
+    record { size = c .size; finalized = rw (p, q); told = state-told r r' s t c; spared = spared-ranges-same r r' s t c }
 
 module _ (r r' : List ℕ) (s : State) (t : Shared r r' s) where
   layout-of-same : layout-of r s ≡ layout-of r' s
@@ -255,6 +260,6 @@ module _ (n : Lent) (r r' : List ℕ) (o : Out State) (e : walk-state (limits n)
   to-tree-exit-same = ap (exit n) (laid-then _ _ _ _ (λ s t. refl) (λ s t. rw (to-tree-same r r' (layout-of r s) (t .size) (blocks-told r r' s t))))
 
   pub clear-list-exit-same : clear-list-exit n r ≡ clear-list-exit n r'
-  unfolding clear-list-exit clear-list-made laid layout
+  unfolding clear-list-exit clear-list-made laid-finalized
   clear-list-exit-same =
-      ap (exit n) (laid-then _ _ _ _ (λ s t. refl) (λ s t. rw (spared-is r r' s t, clear-ranges-same r r' s t, t .size)))
+      ap (exit n) (laid-then _ _ _ _ (λ s t. t .finalized) (λ s t. rw (spared-is r r' s t, clear-ranges-same r r' s t, t .size)))

@@ -1,16 +1,18 @@
 -- The walk is good, and so two recordings that agree on what the first one reads give one state.
-use mathlib.Core.Path.{_≡_, refl}
+use mathlib.Core.Path.{_≡_, refl, ap, _∙_}
 use mathlib.Core.Bool.{true}
 use mathlib.Core.List.{List}
-use Prim.Native.Nat.{ℕ, zero, suc, _+_}
+use Prim.Native.Nat.{ℕ, zero, suc, _+_, _≤_, _<_}
+use native.Mathlib.Omega.{arith}
 use lib.Dec.{leb, eqb}
+use lib.ListN.{length}
 use Rattle.mdf4.specs.Bytes.{bytes}
 use Rattle.mdf4.specs.Act.{refusal, ok, and-then, Kind, ID, UT, UD, Link, State, Limits, Act, choose, pure, _>>_, elem, visit, once}
-use Rattle.mdf4.specs.Kinds.{RecordLayout, no-records}
-use Rattle.mdf4.specs.Walk.{enter, text-kind, enter-text, walk-text-like, walk-source, walk-conversion, record-data-block, record-unknown-block, walk-data-block, walk-data-region, walk-channel, walk-channel-group, walk-data-group, walk-header, start, walk-identification, walk, walk-data-list, list-too-deep, Handed}
+use Rattle.mdf4.specs.Kinds.{RecordLayout, no-records, shape, is, rest, read-len}
+use Rattle.mdf4.specs.Walk.{enter, text-kind, enter-text, walk-text-like, walk-source, walk-conversion, record-data-block, record-unknown-block, walk-data-block, walk-data-region, walk-channel, walk-channel-group, walk-data-group, walk-header, start, walk-identification, walk, walk-data-list, list-too-deep, Handed, Block}
 use Rattle.mdf4.proofs.Results.{and-then-ok, ok-both}
-use Rattle.mdf4.proofs.Reading.{row-links, Agree}
-use Rattle.mdf4.proofs.Good.{Good, Any, Ready, Inv, good-pure, good-stop, good-bind, good-then, good-choose, good-sized, good-seen, good-weaken, good-chain, good-each, good-once, good-enter, enter-head, enter-listed, offs}
+use Rattle.mdf4.proofs.Reading.{row-links, Reads, Agree}
+use Rattle.mdf4.proofs.Good.{Good, Any, Ready, Inv, good-pure, good-stop, good-bind, good-then, good-choose, good-sized, good-seen, good-weaken, good-chain, good-each, good-once, good-enter, enter-head, enter-listed, enter-whole, enter-reads, offs}
 
 pub ruleset shapes = (good-pure, good-stop, good-bind, good-then, good-choose, good-sized, good-seen, good-chain, good-each, good-once, good-enter)
 
@@ -113,17 +115,39 @@ walk-inv lim r s e =
     good-then Any walk-identification (walk-header (lim .visited)) good-walk-identification (good-walk-header (lim .visited))
     .went r (start lim) tt s e .keeps tt (start-inv lim r)
 
--- the ID is listed
-id-listed : (r : List ℕ) (lim : Limits) (s : State) → walk-identification r (start lim) ≡ ok (tt, s) → elem 0 (offs (s .rows)) ≡ true
-unfolding walk-identification once choose start elem _>>_ pure
-id-listed r lim s e =
-    let p = and-then-ok (visit ID 0 r (start lim)) _ (tt {0}, s) e in
-    let q = and-then-ok (enter ID 0 (no-records 0) r (p .0 .1)) _ (tt {0}, s) (p .2) in
-    let z : q .0 .1 ≡ s = ok-both tt tt (q .0 .1) s (q .2) .1 in
-    rw z at (enter-listed ID 0 (no-records 0) r (p .0 .1) (q .0 .0) (q .0 .1) (q .1))
+-- the ID is listed; its 64 bytes lie inside the recording and are read
+module _ (r : List ℕ) (lim : Limits) (s : State) (e : walk-identification r (start lim) ≡ ok (tt, s)) where
+  id-entered : (p : State) × (x : Block) × (enter ID 0 (no-records 0) r p ≡ ok (x, s))
+  unfolding walk-identification once choose start elem _>>_ pure
+  id-entered =
+      let p = and-then-ok (visit ID 0 r (start lim)) _ (tt {0}, s) e in
+      let q = and-then-ok (enter ID 0 (no-records 0) r (p .0 .1)) _ (tt {0}, s) (p .2) in
+      let z : q .0 .1 ≡ s = ok-both tt tt (q .0 .1) s (q .2) .1 in
+      (p .0 .1, q .0 .0, q .1 ∙ ap (λ (t : State). ok (q .0 .0, t)) z)
 
-pub walk-id : (lim : Limits) (r : List ℕ) (s : State) → walk r (start lim) ≡ ok (tt, s) → elem 0 (offs (s .rows)) ≡ true
-unfolding walk _>>_
-walk-id lim r s e =
-    let p = and-then-ok (walk-identification r (start lim)) _ (tt {0}, s) e in
-    good-walk-header (start lim .lent .visited) .went r (p .0 .1) tt s (p .2) .listed 0 (id-listed r lim (p .0 .1) (p .1))
+  id-len : read-len ID r 0 ≡ 64
+  unfolding read-len shape rest is
+  id-len = refl
+
+  id-listed : elem 0 (offs (s .rows)) ≡ true
+  id-listed = let p = id-entered in enter-listed ID 0 (no-records 0) r (p .0) (p .1) s (p .2)
+
+  id-whole : 64 ≤ length r
+  id-whole = let p = id-entered in omega (arith, id-len, enter-whole ID 0 (no-records 0) r (p .0) (p .1) s (p .2))
+
+  id-reads : (i : ℕ) → i < 64 → Reads r s i
+  id-reads i l = let p = id-entered in enter-reads ID 0 (no-records 0) r (p .0) (p .1) s (p .2) i (omega arith) (omega (arith, id-len))
+
+module _ (lim : Limits) (r : List ℕ) (s : State) (e : walk r (start lim) ≡ ok (tt, s)) where
+  after-id : (p : State) × (walk-identification r (start lim) ≡ ok (tt, p)) × (walk-header (lim .visited) r p ≡ ok (tt, s))
+  unfolding walk _>>_ start
+  after-id = let p = and-then-ok (walk-identification r (start lim)) _ (tt {0}, s) e in (p .0 .1, p .1, p .2)
+
+  pub walk-id : elem 0 (offs (s .rows)) ≡ true
+  walk-id = let p = after-id in good-walk-header (lim .visited) .went r (p .0) tt s (p .2) .listed 0 (id-listed r lim (p .0) (p .1))
+
+  pub walk-id-whole : 64 ≤ length r
+  walk-id-whole = let p = after-id in id-whole r lim (p .0) (p .1)
+
+  pub walk-id-reads : (i : ℕ) → i < 64 → Reads r s i
+  walk-id-reads i l = let p = after-id in good-walk-header (lim .visited) .went r (p .0) tt s (p .2) .grows i (id-reads r lim (p .0) (p .1) i l)

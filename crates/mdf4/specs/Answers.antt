@@ -7,7 +7,7 @@ use Rattle.mdf4.specs.Bytes.{Range, bit, concat-map}
 use Rattle.mdf4.specs.Act.{refusal, Out, ok, err, and-then, check, Row, Link, Limits, elem}
 use Rattle.mdf4.specs.Kinds.{shape, u64-max}
 use Rattle.mdf4.specs.Reads.{spared-ranges}
-use Rattle.mdf4.specs.Layout.{Layout, layout}
+use Rattle.mdf4.specs.Layout.{Layout, layout, layout-if, finalized}
 use Rattle.mdf4.specs.Clear.{clear-ranges, clr-bytes}
 use Rattle.mdf4.specs.Listing.{to-text}
 use Rattle.mdf4.specs.Tree.{to-tree}
@@ -109,6 +109,10 @@ exit n (err e) = record {
 unfoldable pub laid : Lent → List ℕ → Out Layout
 laid n r = layout (limits n) (n .gaps / pair-words) r
 
+-- the same of a finalised recording: 16 too, after the walk and before 13
+unfoldable pub laid-finalized : Lent → List ℕ → Out Layout
+laid-finalized n r = layout-if (finalized r) (limits n) (n .gaps / pair-words) r
+
 -- refusal 13 of the scratch table: a row for each range that is read or kept
 unfoldable pub room : ℕ → ℕ → Out (Unit {0})
 room n k = check (leb k n) (refusal 13 0 n k)
@@ -128,7 +132,7 @@ unfoldable pub to-tree-made : Lent → List ℕ → Out Made
 to-tree-made n r = and-then (laid n r) (λ y. and-then (to-tree r y) (λ p. fitted (n .out) y (p .1) (p .0)))
 
 unfoldable pub clear-list-made : Lent → List ℕ → Out Made
-clear-list-made n r = and-then (laid n r) (λ y.
+clear-list-made n r = and-then (laid-finalized n r) (λ y.
     and-then (room (n .scratch / pair-words) (length (spared-ranges r (y .state)))) (λ u. fitted (n .out) y [] (clr-bytes (length r) (clear-ranges r y))))
 
 unfoldable pub layout-exit : Lent → List ℕ → Exit

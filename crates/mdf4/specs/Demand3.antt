@@ -1,17 +1,17 @@
--- Demand 3 as statements about what a call of an entry answers and leaves in the lent memory. proofs/Demand3.antt proves them of
--- each entry's definition.
+-- Demand 3, and what document 02's orders add to it, as statements about what a call of an entry answers and leaves in the lent memory.
+-- proofs/Demand3.antt and proofs/Finalized.antt prove them of each entry's definition.
 use mathlib.Core.Path.{_≡_}
 use mathlib.Core.Bool.{true, false, not, _&&_}
 use mathlib.Core.List.{List, [], _∷_, map}
 use mathlib.Core.Logic.{_⊎_}
-use Prim.Native.Nat.{ℕ, zero, suc, _+_, _-_, _≤_, _<_}
+use Prim.Native.Nat.{ℕ, zero, suc, _+_, _-_, _*_, _≤_, _<_}
 use lib.ListN.{length, getD, take, drop}
 use Rattle.mdf4.specs.Bytes.{num, Range, inside, bit, count}
-use Rattle.mdf4.specs.Act.{Out, ok, err, elem}
+use Rattle.mdf4.specs.Act.{Refusal, refusal, Out, ok, err, State, elem}
 use Rattle.mdf4.specs.Reads.{read-ranges, kept-ranges}
-use Rattle.mdf4.specs.Layout.{Layout}
+use Rattle.mdf4.specs.Layout.{Layout, walk-state}
 use Rattle.mdf4.specs.Clear.{clr-bytes}
-use Rattle.mdf4.specs.Answers.{Lent, Counts, Exit, laid, block-row-words, pair-words}
+use Rattle.mdf4.specs.Answers.{Lent, Counts, Exit, limits, laid, block-row-words, pair-words}
 
 -- the read bytes of a recording that is accepted with these lent lengths
 unfoldable pub read-by : List ℕ → Out Layout → List Range
@@ -100,11 +100,32 @@ pub record Spared (n : Lent) (r : List ℕ) (ranges : List Range) (t : ℕ) : Ty
   pub extent : (i : ℕ) → t ≤ i → i < t + num r (t + 8) 8 → inside i ranges ≡ false
 
 -- The output of an accepted clear list: the CLR bytes of ranges that hold exactly the bytes that lie in a gap and are neither read
--- nor kept; every block that a link leads to is spared; and no list of ranges that holds the same bytes is shorter.
+-- nor kept; every block that a link leads to is spared; the recording is finalised (document 02, order 4): its bytes 60 to 63 are 0;
+-- and no list of ranges that holds the same bytes is shorter.
 pub record Cleared (n : Lent) (r : List ℕ) (e : Exit) (c : Counts) : Type 0 where
   pub ranges : List Range
   pub written : take (c .bytes) (e .out) ≡ clr-bytes (length r) ranges
   pub exact : (i : ℕ) → inside i ranges ≡ (inside i (gaps-in e c) && (not (inside i (read n r)) && not (inside i (kept n r))))
   pub spares : (j : ℕ) → j < c .links → Block r (getD (targets-in e c) j 0) → Spared n r ranges (getD (targets-in e c) j 0)
+  pub finalized : (i : ℕ) → 60 ≤ i → i < 64 → getD r i 0 ≡ 0
   pub apart : Apart 0 ranges
   pub fewest : (qs : List Range) → ((j : ℕ) → inside j ranges ≡ inside j qs) → length ranges ≤ length qs
+
+-- document 02's order 4, of the recording alone: one of the bytes 60 to 63, the words of unfinalized flags, is not 0
+pub record Unfinalized (r : List ℕ) : Type 0 where
+  pub at : ℕ
+  pub from : 60 ≤ at
+  pub to : at < 64
+  pub some : getD r at 0 ≡ 0 → ⊥
+
+-- What a clear list answers of it, whatever is lent: a refusal of the walk comes first; behind the walk it is 16 with the two words
+-- where the recording is unfinalised, and 16 means that it is.
+pub record Finalizing (n : Lent) (r : List ℕ) (a : Out Counts) : Type 0 where
+  pub walk-first : (z : Refusal) → walk-state (limits n) r ≡ err z → a ≡ err z
+  pub refused : (s : State) → walk-state (limits n) r ≡ ok s → Unfinalized r
+      → a ≡ err (refusal 16 60 (getD r 60 0 + 256 * getD r 61 0) (getD r 62 0 + 256 * getD r 63 0))
+  pub only : (z : Refusal) → a ≡ err z → z .number ≡ 16 → Unfinalized r
+
+-- An entry that does not look never answers 16.
+pub record Unasked (entry : Lent → List ℕ → Exit) : Type 0 where
+  pub never-16 : (n : Lent) (r : List ℕ) (z : Refusal) → entry n r .answer ≡ err z → z .number ≡ 16 → ⊥

@@ -1,11 +1,11 @@
 -- The layout: the walk, the rows by offset and the gaps between them, as `FileLayout::from_bytes` makes them; refusal 13 of the gap
--- table; and where an entry may ask something of its own: between the walk and the gaps.
-use mathlib.Core.Bool.{cond}
+-- table; and what an entry may ask between the walk and the gaps: refusal 16.
+use mathlib.Core.Bool.{cond, _&&_}
 use mathlib.Core.List.{List, [], _∷_, _++_, map}
 use Prim.Native.Nat.{ℕ, max}
-use lib.Dec.{leb, ltb}
+use lib.Dec.{leb, ltb, eqb}
 use lib.ListN.{length}
-use Rattle.mdf4.specs.Bytes.{Range}
+use Rattle.mdf4.specs.Bytes.{num, Range}
 use Rattle.mdf4.specs.Act.{refusal, Out, ok, and-then, check, Row, State, Limits, reason}
 use Rattle.mdf4.specs.Walk.{walk, start}
 
@@ -54,3 +54,8 @@ layout-if asked lim lent r = and-then (walk-state lim r) (λ s. and-then asked (
 -- an entry that asks nothing
 unfoldable pub layout : Limits → ℕ → List ℕ → Out Layout
 layout lim lent r = layout-if (ok tt) lim lent r
+
+-- what an entry asks that takes finalised recordings only (document 02, order 4): the identification's two words of unfinalized flags
+-- are 0
+unfoldable pub finalized : List ℕ → Out (Unit {0})
+finalized r = check (eqb (num r 60 2) 0 && eqb (num r 62 2) 0) (refusal 16 60 (num r 60 2) (num r 62 2))

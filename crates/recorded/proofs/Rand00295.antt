@@ -4,7 +4,7 @@ use mathlib.Core.List.{List, [], _∷_, _++_}
 use Prim.Native.Nat.{ℕ}
 use lib.ListN.{replicate}
 use Rattle.fmt.specs.Text.{ascii}
-use Rattle.mdf4.specs.Act.{ok}
+use Rattle.mdf4.specs.Act.{ok, err, refusal}
 use Rattle.mdf4.specs.Answers.{layout-exit, to-text-exit, to-tree-exit, clear-list-exit}
 use Rattle.mdf4.proofs.Computed.{computed}
 use Rattle.mdf4.proofs.Recordings.{lent, counts}
@@ -105,17 +105,8 @@ unfolding computed recording visited links gaps blocks
 text = refl
 
 clear : clear-list-exit (lent 7 84 34 0 40 24) recording
-    ≡ record {
-      answer = ok (counts 7 7 17 0 24);
-      visited = visited;
-      blocks = blocks;
-      links = links;
-      gaps = gaps;
-      scratch = replicate 40 0;
-      out =
-          67 ∷ 76 ∷ 82 ∷ 1 ∷ 0 ∷ 0 ∷ 0 ∷ 0 ∷ 96 ∷ 2 ∷ 0 ∷ 0 ∷ 0 ∷ 0 ∷ 0 ∷ 0 ∷ 0 ∷ 0 ∷ 0 ∷ 0 ∷ 0 ∷ 0 ∷ 0 ∷ 0 ∷ [];
-    }
-unfolding computed recording visited links gaps blocks
+    ≡ record { answer = err (refusal 16 60 1 0); visited = replicate 7 0; blocks = replicate 84 0; links = replicate 34 0; gaps = replicate 0 0; scratch = replicate 40 0; out = replicate 24 0 }
+unfolding computed recording
 clear = refl
 
 marked-blocks : List ℕ

@@ -180,8 +180,16 @@ fn few_links(data: &[u8], b: &[u8], ends: Ends, entry: Entry, places: Want, lent
     lend(data, b, ends, entry, want, short)
 }
 
+// The refusal that comes right after the walk, if there is one; or what is refused later.
+fn first(walked: Want, later: Want) -> Want {
+    if walked.number != 0 {
+        return walked;
+    }
+    later
+}
+
 // One gap row too few.
-fn few_gaps(data: &[u8], b: &[u8], ends: Ends, entry: Entry, lent: Lent) -> bool
+fn few_gaps(data: &[u8], b: &[u8], ends: Ends, entry: Entry, walked: Want, lent: Lent) -> bool
     requires { ⌜ Ordered ends × (ends .gaps ≤ length (now b)) ⌝ }
 {
     if lent.gaps == 0 {
@@ -189,12 +197,15 @@ fn few_gaps(data: &[u8], b: &[u8], ends: Ends, entry: Entry, lent: Lent) -> bool
     }
     let mut short = lent;
     short.gaps = lent.gaps - 1;
-    let want = refusal(13, 0, short.gaps / PAIR_WORDS, lent.gaps / PAIR_WORDS);
+    let want = first(
+        walked,
+        refusal(13, 0, short.gaps / PAIR_WORDS, lent.gaps / PAIR_WORDS),
+    );
     lend(data, b, ends, entry, want, short)
 }
 
 // One scratch row too few.
-fn few_scratch(data: &[u8], b: &[u8], ends: Ends, entry: Entry, lent: Lent) -> bool
+fn few_scratch(data: &[u8], b: &[u8], ends: Ends, entry: Entry, walked: Want, lent: Lent) -> bool
     requires { ⌜ Ordered ends × (ends .gaps ≤ length (now b)) ⌝ }
 {
     if lent.scratch == 0 {
@@ -202,12 +213,15 @@ fn few_scratch(data: &[u8], b: &[u8], ends: Ends, entry: Entry, lent: Lent) -> b
     }
     let mut short = lent;
     short.scratch = lent.scratch - 1;
-    let want = refusal(13, 0, short.scratch / PAIR_WORDS, lent.scratch / PAIR_WORDS);
+    let want = first(
+        walked,
+        refusal(13, 0, short.scratch / PAIR_WORDS, lent.scratch / PAIR_WORDS),
+    );
     lend(data, b, ends, entry, want, short)
 }
 
 // One byte of the output too few.
-fn few_bytes(data: &[u8], b: &[u8], ends: Ends, entry: Entry, lent: Lent) -> bool
+fn few_bytes(data: &[u8], b: &[u8], ends: Ends, entry: Entry, walked: Want, lent: Lent) -> bool
     requires { ⌜ Ordered ends × (ends .gaps ≤ length (now b)) ⌝ }
 {
     if lent.out == 0 {
@@ -215,12 +229,12 @@ fn few_bytes(data: &[u8], b: &[u8], ends: Ends, entry: Entry, lent: Lent) -> boo
     }
     let mut short = lent;
     short.out = lent.out - 1;
-    let want = refusal(14, 0, short.out, lent.out);
+    let want = first(walked, refusal(14, 0, short.out, lent.out));
     lend(data, b, ends, entry, want, short)
 }
 
 // No output.
-fn no_bytes(data: &[u8], b: &[u8], ends: Ends, entry: Entry, lent: Lent) -> bool
+fn no_bytes(data: &[u8], b: &[u8], ends: Ends, entry: Entry, walked: Want, lent: Lent) -> bool
     requires { ⌜ Ordered ends × (ends .gaps ≤ length (now b)) ⌝ }
 {
     if lent.out == 0 {
@@ -228,12 +242,20 @@ fn no_bytes(data: &[u8], b: &[u8], ends: Ends, entry: Entry, lent: Lent) -> bool
     }
     let mut short = lent;
     short.out = 0;
-    let want = refusal(14, 0, 0, lent.out);
+    let want = first(walked, refusal(14, 0, 0, lent.out));
     lend(data, b, ends, entry, want, short)
 }
 
 // Each table one row short, as the walk and the gaps fill them.
-fn few_rows(data: &[u8], b: &[u8], ends: Ends, entry: Entry, places: Want, lent: Lent) -> bool
+fn few_rows(
+    data: &[u8],
+    b: &[u8],
+    ends: Ends,
+    entry: Entry,
+    places: Want,
+    walked: Want,
+    lent: Lent,
+) -> bool
     requires { ⌜ Ordered ends × (ends .gaps ≤ length (now b)) ⌝ }
 {
     if !few_visited(data, b, ends, entry, places, lent) {
@@ -245,38 +267,44 @@ fn few_rows(data: &[u8], b: &[u8], ends: Ends, entry: Entry, places: Want, lent:
     if !few_links(data, b, ends, entry, places, lent) {
         return false;
     }
-    few_gaps(data, b, ends, entry, lent)
+    few_gaps(data, b, ends, entry, walked, lent)
 }
 
 // The scratch table and the output short.
-fn few_of_own(data: &[u8], b: &[u8], ends: Ends, entry: Entry, lent: Lent) -> bool
+fn few_of_own(data: &[u8], b: &[u8], ends: Ends, entry: Entry, walked: Want, lent: Lent) -> bool
     requires { ⌜ Ordered ends × (ends .gaps ≤ length (now b)) ⌝ }
 {
-    if !few_scratch(data, b, ends, entry, lent) {
+    if !few_scratch(data, b, ends, entry, walked, lent) {
         return false;
     }
-    if !few_bytes(data, b, ends, entry, lent) {
+    if !few_bytes(data, b, ends, entry, walked, lent) {
         return false;
     }
-    no_bytes(data, b, ends, entry, lent)
+    no_bytes(data, b, ends, entry, walked, lent)
 }
 
-// All calls of an entry for a recording that is accepted.
-fn entry_calls(data: &[u8], b: &[u8], ends: Ends, entry: Entry, places: Want) -> bool
+// All calls of an entry for a recording whose walk ends, with just enough lent and with less.
+fn entry_calls(
+    data: &[u8],
+    b: &[u8],
+    ends: Ends,
+    entry: Entry,
+    places: Want,
+    walked: Want,
+    lent: Lent,
+) -> bool
     requires { ⌜ Ordered ends × (ends .gaps ≤ length (now b)) ⌝ }
 {
-    let lent = exact(ends, entry);
-    let none = refusal(0, 0, 0, 0);
-    if !lend(data, b, ends, entry, none, lent) {
+    if !lend(data, b, ends, entry, walked, lent) {
         return false;
     }
-    if !lend(data, b, ends, entry, none, plenty(entry.number)) {
+    if !lend(data, b, ends, entry, walked, plenty(entry.number)) {
         return false;
     }
-    if !few_rows(data, b, ends, entry, places, lent) {
+    if !few_rows(data, b, ends, entry, places, walked, lent) {
         return false;
     }
-    few_of_own(data, b, ends, entry, lent)
+    few_of_own(data, b, ends, entry, walked, lent)
 }
 
 // Whether the entry's bytes were recorded; the layout has none.
@@ -295,13 +323,44 @@ pub(crate) fn accepts(data: &[u8], b: &[u8], ends: Ends, places: Want) -> bool
     while number < ENTRIES {
         let entry = entry_of(ends, number);
         if is_recorded(entry) {
-            if !entry_calls(data, b, ends, entry, places) {
+            if !entry_calls(
+                data,
+                b,
+                ends,
+                entry,
+                places,
+                refusal(0, 0, 0, 0),
+                exact(ends, entry),
+            ) {
                 return false;
             }
         }
         number += 1;
     }
     true
+}
+
+// All calls of the clear list for an unfinalised recording: refused after the walk and before anything else, so also if nothing is
+// lent for what follows.
+pub(crate) fn refuses_clear_list(
+    data: &[u8],
+    b: &[u8],
+    ends: Ends,
+    places: Want,
+    unfinalized: Want,
+) -> bool
+    requires { ⌜ Ordered ends × (ends .gaps ≤ length (now b)) ⌝ }
+{
+    let entry = entry_of(ends, CLEAR_LIST);
+    let mut lent = exact(ends, entry);
+    lent.out = OUT;
+    if !entry_calls(data, b, ends, entry, places, unfinalized, lent) {
+        return false;
+    }
+    lent.gaps = 0;
+    lent.scratch = 0;
+    lent.out = 0;
+    lend(data, b, ends, entry, unfinalized, lent)
 }
 
 // The entries answer these bytes as they answered the recording.

@@ -1,7 +1,7 @@
 // Replays the Rust's recorded answers: standard input is the pack that tools/pack.py wrote, whose parts are said there. Each entry is
 // called with tables and an output lent exactly, with more than enough that is not a whole number of rows, and with each one short;
-// and again on a copy of the recording whose clear ranges are zero. Before each call all lent memory is filled with ones. Prints the
-// place of each recording that is answered otherwise, and how many there are.
+// and again on a copy of the recording whose clear ranges are zero, but for unfinalised ones. Before each call all lent memory is
+// filled with ones. Prints the place of each recording that is answered otherwise, and how many there are.
 ghost use Prim.Native.Nat.{_≤_};
 ghost use lib.ListN.{length};
 ghost use Rattle.replay.specs.Parts.{Ordered};
@@ -13,6 +13,7 @@ mod recording;
 
 use calls::accepts;
 use calls::refuses;
+use calls::refuses_clear_list;
 use clear::cleared;
 use libc::STDOUT_FILENO;
 use recording::Ends;
@@ -20,12 +21,13 @@ use recording::Want;
 use recording::ends_of;
 use recording::recorded;
 use recording::size_at;
+use recording::unfinalized;
 
 // Bytes of a recording's head.
 const HEAD: usize = 72;
 
-// All calls for a recording.
-fn calls_for(b: &[u8], ends: Ends, want: Want) -> bool
+// All calls for a recording. An unfinalised one has no clear list.
+fn calls_for(b: &[u8], ends: Ends, want: Want, unfinalized: Want) -> bool
     requires { ⌜ Ordered ends × (ends .gaps ≤ length (now b)) ⌝ }
 {
     let end = ends.file;
@@ -34,6 +36,9 @@ fn calls_for(b: &[u8], ends: Ends, want: Want) -> bool
     }
     if !accepts(&b[..end], b, ends, want) {
         return false;
+    }
+    if unfinalized.number != 0 {
+        return refuses_clear_list(&b[..end], b, ends, want, unfinalized);
     }
     cleared(b, ends)
 }
@@ -58,7 +63,7 @@ fn replayed(head: &[u8], b: &[u8]) -> bool
     if b.len() < ends.gaps {
         return false;
     }
-    calls_for(b, ends, recorded(head))
+    calls_for(b, ends, recorded(head), unfinalized(head))
 }
 
 // Reads the parts of the recording with this head, and replays it.

@@ -2,6 +2,7 @@
 ghost use Prim.Native.Nat.{_+_, _≤_};
 ghost use lib.ListN.{length};
 ghost use Rattle.replay.specs.Parts.{Ordered};
+use byteorder::read_u16;
 use byteorder::read_u32;
 use byteorder::read_u64;
 use tables::PAIR_WORDS;
@@ -100,6 +101,20 @@ pub(crate) fn recorded(head: &[u8]) -> Want
         a: read_u64(head, 56),
         b: read_u64(head, 64),
     }
+}
+
+// The refusal of an unfinalised recording's clear list, or number 0.
+pub(crate) fn unfinalized(head: &[u8]) -> Want
+    requires { ⌜ 72 ≤ length (now head) ⌝ }
+{
+    let standard = read_u16(head, 36);
+    let custom = read_u16(head, 38);
+    if standard == 0 {
+        if custom == 0 {
+            return refusal(0, 0, 0, 0);
+        }
+    }
+    refusal(16, 60, standard as usize, custom as usize)
 }
 
 pub(crate) fn refusal(number: u64, place: u64, a: usize, b: usize) -> Want {

@@ -11,6 +11,9 @@ slice-aggregate-refuses c = sym (length-take-le _ _ (search needs))
 slice-aggregate-accepts : tie.Need-slice-aggregate-accepts
 slice-aggregate-accepts c = sym (length-take-le _ _ (search needs))
 
+slice-aggregate-refuses-clear-list : tie.Need-slice-aggregate-refuses-clear-list
+slice-aggregate-refuses-clear-list c = sym (length-take-le _ _ (search needs))
+
 pub calls-for-spec : {M : Type 1} → statement M
 calls-for-spec =
     tie.close
@@ -19,6 +22,9 @@ calls-for-spec =
     (λ c κs. search needs)
     (λ c. search needs)
     slice-aggregate-accepts
+    (λ c κs. search needs)
+    (λ c. search needs)
+    slice-aggregate-refuses-clear-list
     (λ c κs. search needs)
     (λ c. search needs)
     (λ c κs. search needs)

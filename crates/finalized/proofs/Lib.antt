@@ -1,0 +1,2 @@
+-- Laws that the proofs of the test for finalised recordings cite.
+pub mod Words
