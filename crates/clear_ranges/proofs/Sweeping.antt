@@ -1,9 +1,11 @@
--- The sweep over sorted ranges: the gaps found so far and those still to come are all of them; and little-endian bytes one by one.
-use mathlib.Core.Path.{_≡_, refl, sym, _∙_}
+-- The sweep over sorted ranges: one law for every loop over what they leave; and little-endian bytes one by one.
+use mathlib.Core.Path.{_≡_, refl, sym, ap, _∙_}
+use mathlib.Core.Bool.{Bool, true, false, cond}
 use mathlib.Core.List.{List, [], _∷_, _++_, append-assoc, append-nil}
-use Prim.Native.Nat.{ℕ, suc, _+_, _-_, _*_, _/_, _%_, _≤_, _<_, max}
+use Prim.Native.Nat.{ℕ, zero, suc, _+_, _-_, _*_, _/_, _%_, _≤_, _<_, max}
 use native.Mathlib.Omega.{arith}
-use lib.ListN.{length, getD, length-append}
+use lib.Dec.{ltb}
+use lib.ListN.{length, getD, drop, length-append}
 use borrow.Author.Tests.{lt-ltb, le-ltb}
 use Rattle.fmt.specs.Text.{Wrote}
 use Rattle.fmt.proofs.Text.{none, then}
@@ -13,6 +15,10 @@ use Rattle.mdf4.specs.Clear.{le-bytes, range-bytes}
 use Rattle.mdf4.specs.Demand3.{ranges-in}
 use Rattle.tables.proofs.Gapping.{ranges-from, ranges-cons, ranges-none, ranges-all}
 use Rattle.mdf4.proofs.Lists.{concat-map-append}
+use Rattle.clear_ranges.specs.Sweep.{left-from, NextMet}
+use Rattle.clear_ranges.specs.declared.Found.{Found}
+use Rattle.clear_ranges.specs.declared.Next.{Next}
+use Rattle.clear_ranges.specs.declared.Next.the-variants as next
 
 -- one gap
 gap-some : {a b : ℕ} → a < b → gap a b ≡ (a, b) ∷ []
@@ -23,83 +29,97 @@ gap-none : {a b : ℕ} → b ≤ a → gap a b ≡ []
 unfolding gap
 gap-none {a} {b} h = rw (le-ltb a b h)
 
-pub count-some : {a b : ℕ} (c : ℕ) → a < b → c + 1 ≡ c + length (gap a b)
-count-some c h = rw (gap-some h) refl
+-- what is left at row i
+module _ (len n : ℕ) (t : List ℕ) where
+  left-start : left-from len n t 0 0 ≡ compute-gaps len 0 (ranges-in 2 n t)
+  unfolding left-from
+  left-start = rw (ranges-all 2 n t)
 
-pub count-none : {a b : ℕ} (c : ℕ) → b ≤ a → c ≡ c + length (gap a b)
-count-none c h = rw (gap-none h) (omega arith)
+  module _ (i from : ℕ) where
+    pub left-found : i < n → from < getD t (i * 2) 0
+        → left-from len n t i from ≡ (from, getD t (i * 2) 0) ∷ left-from len n t (i + 1) (max from (getD t (i * 2 + 1) 0))
+    unfolding left-from compute-gaps
+    left-found h l = rw (ranges-cons 2 n t i h, gap-some l)
 
-pub wrote-some : {out out' : List ℕ} {at at' a b : ℕ} → a < b → Wrote out at (le-bytes 8 a ++ le-bytes 8 b) out' at' → Wrote out at (concat-map range-bytes (gap a b)) out' at'
+    pub left-passed : i < n → getD t (i * 2) 0 ≤ from → left-from len n t i from ≡ left-from len n t (i + 1) (max from (getD t (i * 2 + 1) 0))
+    unfolding left-from compute-gaps
+    left-passed h l = rw (ranges-cons 2 n t i h, gap-none l)
+
+    left-last : n ≤ i → left-from len n t i from ≡ gap from len
+    unfolding left-from compute-gaps
+    left-last h = rw (ranges-none 2 n t i h)
+
+    pub left-none : n ≤ i → len ≤ from → left-from len n t i from ≡ []
+    left-none h l = left-last h ∙ gap-none l
+
+  pub left-end : (i from : ℕ) → n ≤ i → from < len → left-from len n t i from ≡ (from, len) ∷ left-from len n t i len
+  left-end i from h l = left-last i from h ∙ gap-some l ∙ ap (λ (ps : List Range). (from, len) ∷ ps) (sym (left-none i len h (omega arith)))
+
+-- A loop over the ranges: P holds of those found so far, and these and the ones left are all.
+pub record Going (P : List Range → Type 0) (len n : ℕ) (t : List ℕ) (row cursor : ℕ) : Type 0 where
+  pub found : List Range
+  pub all : found ++ left-from len n t row cursor ≡ compute-gaps len 0 (ranges-in 2 n t)
+  pub holds : P found
+
+module _ {P : List Range → Type 0} {len n : ℕ} {t : List ℕ} where
+  pub going : P [] → Going P len n t 0 0
+  going p = record { found = []; all = left-start len n t; holds = p }
+
+  module _ {row cursor : ℕ} {x : Next} (s : Going P len n t row cursor) (m : NextMet x len n t row cursor) where
+    pub turn : {Q : List Range → Type 0} {g : Found} → x ≡ next.Range g
+        → ((ps rest : List Range) → ps ++ (g .start, g .end) ∷ rest ≡ compute-gaps len 0 (ranges-in 2 n t) → P ps → Q (ps ++ (g .start, g .end) ∷ []))
+        → Going Q len n t (g .row) (g .cursor)
+    turn {g = g} e f =
+        let k = rw e at m in
+        let z : s .found ++ (g .start, g .end) ∷ left-from len n t (g .row) (g .cursor) ≡ compute-gaps len 0 (ranges-in 2 n t) = rw (k .is) at (s .all) in
+        record { found = s .found ++ (g .start, g .end) ∷ []; all = append-assoc (s .found) _ _ ∙ z; holds = f (s .found) _ z (s .holds) }
+
+    pub done : x ≡ next.End → P (compute-gaps len 0 (ranges-in 2 n t))
+    done e = let k = rw e at m in let z : s .found ≡ compute-gaps len 0 (ranges-in 2 n t) = sym (append-nil (s .found)) ∙ rw (k .is) at (s .all) in rw (← z) (s .holds)
+
+-- a turn leaves fewer
+pub fewer : {len n : ℕ} {t : List ℕ} {row cursor : ℕ} {x : Next} {g : Found} → x ≡ next.Range g → NextMet x len n t row cursor
+    → length (left-from len n t (g .row) (g .cursor)) < length (left-from len n t row cursor)
+fewer e m = let k = rw e at m in rw (k .is) (omega arith)
+
+-- n rows leave n + 1 ranges at most
+ranges-length : (n : ℕ) (t : List ℕ) → length (ranges-in 2 n t) ≡ n
+unfolding ranges-in
+ranges-length zero t = refl
+ranges-length (suc n) t = ap suc (ranges-length n (drop 2 t))
+
+gap-most : (a b : ℕ) → length (gap a b) ≤ 1
+unfolding gap
+gap-most a b = go (ltb a b)
+  where
+    go : (h : Bool) → length {A = Range} (cond h ((a, b) ∷ []) []) ≤ 1
+    go true = omega arith
+    go false = omega arith
+
+gaps-most : (len cursor : ℕ) (ps : List Range) → length (compute-gaps len cursor ps) ≤ length ps + 1
+unfolding compute-gaps
+gaps-most len cursor [] = omega (arith, gap-most cursor len)
+gaps-most len cursor (p ∷ ps) = rw length-append (omega (arith, gap-most cursor (p .0), gaps-most len (max cursor (p .1)) ps))
+
+-- counted so far
+pub count-most : {count len n : ℕ} {t : List ℕ} {row cursor : ℕ} → Going (λ ps. count ≡ length ps) len n t row cursor → count ≤ n + 1
+count-most {count} {len} {n} {t} {row} {cursor} s =
+    let z = ap (λ (ps : List Range). length ps) (s .all) in
+    let w = length-append (s .found) (left-from len n t row cursor) in
+    omega (arith, s .holds, z, w, gaps-most len 0 (ranges-in 2 n t), ranges-length n t)
+
+pub count-turn : {count : ℕ} (g : Range) (ps : List Range) → count ≡ length ps → count + 1 ≡ length (ps ++ g ∷ [])
+count-turn g ps e = rw length-append (omega (arith, e))
+
+-- written so far
+pub write-none : (out : List ℕ) (at : ℕ) → Wrote out at (concat-map range-bytes []) out at
+unfolding concat-map
+write-none out at = none out at
+
+pub write-turn : {out out' out'' : List ℕ} {at at' at'' : ℕ} (a b : ℕ) (ps : List Range) → Wrote out at (concat-map range-bytes ps) out' at'
+    → Wrote out' at' (le-bytes 8 a ++ le-bytes 8 b) out'' at'' → Wrote out at (concat-map range-bytes (ps ++ (a, b) ∷ [])) out'' at''
 unfolding concat-map range-bytes
-wrote-some {a = a} {b} h w = rw (gap-some h, append-nil) w
-
-pub wrote-none : {a b : ℕ} (out : List ℕ) (at : ℕ) → b ≤ a → Wrote out at (concat-map range-bytes (gap a b)) out at
-unfolding concat-map
-wrote-none out at h = rw (gap-none h) (none out at)
-
--- the gaps found before row i of n, with the cursor behind them
-pub record Swept (n len : ℕ) (t : List ℕ) (cursor i : ℕ) (found : List Range) : Type 0 where
-  pub is : found ++ compute-gaps len cursor (ranges-from 2 n t i) ≡ compute-gaps len 0 (ranges-in 2 n t)
-
-module _ (n len : ℕ) (t : List ℕ) where
-  swept-start : Swept n len t 0 0 []
-  swept-start = record { is = rw (ranges-all 2 n t) refl }
-
-  module _ (cursor i : ℕ) (found : List Range) (s : Swept n len t cursor i found) where
-    swept-turn : i < n → Swept n len t (max cursor (getD t (i * 2 + 1) 0)) (i + 1) (found ++ gap cursor (getD t (i * 2) 0))
-    unfolding compute-gaps
-    swept-turn h = record { is = append-assoc found (gap cursor (getD t (i * 2) 0)) _ ∙ (sym (rw (ranges-cons 2 n t i h) refl) ∙ s .is) }
-
-    swept-last : n ≤ i → found ++ gap cursor len ≡ compute-gaps len 0 (ranges-in 2 n t)
-    unfolding compute-gaps
-    swept-last h = sym (rw (ranges-none 2 n t i h) refl) ∙ s .is
-
--- counted up to row i
-pub record Counted (n len : ℕ) (t : List ℕ) (count cursor i : ℕ) : Type 0 where
-  pub found : List Range
-  pub swept : Swept n len t cursor i found
-  pub count-is : count ≡ length found
-
-pub count-start : (n len : ℕ) (t : List ℕ) → Counted n len t 0 0 0
-count-start n len t = record { found = []; swept = swept-start n len t; count-is = refl }
-
-pub count-turn : {n len : ℕ} {t : List ℕ} {count count' cursor next i : ℕ} → Counted n len t count cursor i → i < n → count' ≡ count + length (gap cursor (getD t (i * 2) 0))
-    → next ≡ max cursor (getD t (i * 2 + 1) 0) → Counted n len t count' next (i + 1)
-count-turn {n} {len} {t} {cursor = cursor} {i = i} s h e f = rw f (record {
-  found = s .found ++ gap cursor (getD t (i * 2) 0);
-  swept = swept-turn n len t cursor i (s .found) (s .swept) h;
-  count-is = let z = s .count-is in rw length-append (omega (arith, e, z));
-})
-
-pub count-last : {n len : ℕ} {t : List ℕ} {count count' cursor i : ℕ} → Counted n len t count cursor i → n ≤ i → count' ≡ count + length (gap cursor len)
-    → count' ≡ length (compute-gaps len 0 (ranges-in 2 n t))
-count-last {n} {len} {t} {cursor = cursor} {i} s h e =
-    let z = s .count-is in rw (← swept-last n len t cursor i (s .found) (s .swept) h, length-append) (omega (arith, e, z))
-
--- written up to row i
-pub record Written (n len : ℕ) (t out : List ℕ) (at : ℕ) (out' : List ℕ) (at' cursor i : ℕ) : Type 0 where
-  pub found : List Range
-  pub swept : Swept n len t cursor i found
-  pub wrote : Wrote out at (concat-map range-bytes found) out' at'
-
-pub write-start : (n len : ℕ) (t out : List ℕ) (at : ℕ) → Written n len t out at out at 0 0
-unfolding concat-map
-write-start n len t out at = record { found = []; swept = swept-start n len t; wrote = none out at }
-
-pub write-turn : {n len : ℕ} {t out : List ℕ} {at : ℕ} {out' : List ℕ} {at' cursor i : ℕ} {out'' : List ℕ} {at'' : ℕ}
-    → Written n len t out at out' at' cursor i → i < n → Wrote out' at' (concat-map range-bytes (gap cursor (getD t (i * 2) 0))) out'' at''
-    → {next : ℕ} → next ≡ max cursor (getD t (i * 2 + 1) 0) → Written n len t out at out'' at'' next (i + 1)
-write-turn {n} {len} {t} {cursor = cursor} {i} s h w f = rw f (record {
-  found = s .found ++ gap cursor (getD t (i * 2) 0);
-  swept = swept-turn n len t cursor i (s .found) (s .swept) h;
-  wrote = rw concat-map-append (then (s .wrote) w);
-})
-
-pub write-last : {n len : ℕ} {t out : List ℕ} {at : ℕ} {out' : List ℕ} {at' cursor i : ℕ} {out'' : List ℕ} {at'' : ℕ}
-    → Written n len t out at out' at' cursor i → n ≤ i → Wrote out' at' (concat-map range-bytes (gap cursor len)) out'' at''
-    → Wrote out at (concat-map range-bytes (compute-gaps len 0 (ranges-in 2 n t))) out'' at''
-write-last {n} {len} {t} {cursor = cursor} {i} s h w =
-    rw (← swept-last n len t cursor i (s .found) (s .swept) h, concat-map-append) (then (s .wrote) w)
+write-turn a b ps u v = rw (concat-map-append, append-nil) (then u v)
 
 -- the bytes of x before byte i of n, and what is left of x
 pub record Lesser (n x : ℕ) (out : List ℕ) (at : ℕ) (out' : List ℕ) (at' left i : ℕ) : Type 0 where

@@ -1,2 +1,3 @@
--- What the clear list answers. No file here holds a proof.
+-- What the clear list answers, and the sweep behind it. No file here holds a proof.
 pub mod Lists
+pub mod Sweep

@@ -1,12 +1,12 @@
 // The clear list behind the walk: the ranges of the scratch table in order, and what they leave.
 ghost use mathlib.Core.Path.{_≡_};
-ghost use Prim.Native.Nat.{_+_, _*_, _/_, _^_, _≤_, _<_};
+ghost use Prim.Native.Nat.{_*_, _/_, _≤_};
 ghost use lib.ListN.{length};
 ghost use Rattle.fmt.specs.Text.{Wrote};
 ghost use Rattle.mdf4.specs.Bytes.{concat-map};
 ghost use Rattle.mdf4.specs.Act.{ok, and-then};
 ghost use Rattle.mdf4.specs.Reads.{spared-ranges};
-ghost use Rattle.mdf4.specs.Layout.{gap, compute-gaps, Layout, layout-of};
+ghost use Rattle.mdf4.specs.Layout.{compute-gaps, Layout, layout-of};
 ghost use Rattle.mdf4.specs.Clear.{le-bytes, range-bytes, clr-bytes, clear-ranges};
 ghost use Rattle.mdf4.specs.Answers.{pair-words, room};
 ghost use Rattle.mdf4.specs.Demand3.{ranges-in};
@@ -14,6 +14,7 @@ ghost use Rattle.mdf4.proofs.Good.{Inv};
 ghost use Rattle.tables.specs.Laid.{Printable};
 ghost use Rattle.tables.specs.Rows.{held-rows, held-links};
 ghost use Rattle.clear_ranges.specs.Lists.{ClearMet};
+ghost use Rattle.clear_ranges.specs.Sweep.{NextMet};
 use blocks::error::MdfError;
 use fmt::put;
 use fmt::put_bytes;
@@ -48,60 +49,89 @@ fn put_le(out: &mut [u8], at: usize, x: u64, n: usize) -> usize
     a
 }
 
-// The start and the end of the gap from `start` to `end`, where there is one.
-fn put_gap(out: &mut [u8], at: usize, start: u64, end: u64) -> usize
-    ensures { λ r. ⌜ Wrote (now (out .entry)) at (concat-map range-bytes (gap start end)) (now (out .exit)) r ⌝ }
-{
-    if start < end {
-        let a = put_le(out, at, start, 8);
-        return put_le(out, a, end, 8);
-    }
-    at
+// A range that rows leave, and where the sweep over them goes on behind it.
+pub struct Found {
+    pub start: u64,
+    pub end: u64,
+    pub row: usize,
+    pub cursor: u64,
 }
 
-// The gaps between the first n ranges of t, in a file of len bytes.
-fn put_gaps(t: &[u64], n: usize, len: u64, out: &mut [u8], start: usize) -> usize
+pub enum Next {
+    Range(Found),
+    End,
+}
+
+// The sweep: the next range that the first n rows of t, by start, leave in a file of len bytes, from that row and the cursor on.
+pub fn next_range(t: &[u64], n: usize, len: u64, row: usize, cursor: u64) -> Next
     requires { ⌜ n * pair-words ≤ length (now t) ⌝ }
-    ensures { λ r. ⌜ Wrote (now (out .entry)) start (concat-map range-bytes (compute-gaps len 0 (ranges-in pair-words n (now (t .entry))))) (now (out .exit)) r ⌝ }
+    ensures { λ r. ⌜ NextMet r len n (now (t .entry)) row cursor ⌝ }
 {
-    let mut a = start;
-    let mut cursor = 0;
-    let mut i = 0;
+    let mut i = row;
+    let mut from = cursor;
     while i < n {
         let at = i * PAIR_WORDS;
-        a = put_gap(out, a, cursor, t[at]);
-        cursor = larger(cursor, t[at + 1]);
+        let start = t[at];
+        let behind = larger(from, t[at + 1]);
         i += 1;
+        if from < start {
+            return Next::Range(Found {
+                start: from,
+                end: start,
+                row: i,
+                cursor: behind,
+            });
+        }
+        from = behind;
     }
-    put_gap(out, a, cursor, len)
+    if from < len {
+        return Next::Range(Found {
+            start: from,
+            end: len,
+            row: i,
+            cursor: len,
+        });
+    }
+    Next::End
 }
 
-// One more where there is a gap from `start` to `end`.
-fn count_gap(count: usize, start: u64, end: u64) -> usize
-    requires { ⌜ count < 2 ^ 63 ⌝ }
-    ensures { λ r. ⌜ (r ≡ count + length (gap start end)) × (r ≤ count + 1) ⌝ }
-{
-    if end <= start {
-        return count;
-    }
-    count + 1
-}
-
-// How many gaps there are between the first n ranges of t.
-fn count_gaps(t: &[u64], n: usize, len: u64) -> usize
+// How many ranges the first n rows of t leave.
+pub fn count_ranges(t: &[u64], n: usize, len: u64) -> usize
     requires { ⌜ n * pair-words ≤ length (now t) ⌝ }
     ensures { λ r. ⌜ r ≡ length (compute-gaps len 0 (ranges-in pair-words n (now (t .entry)))) ⌝ }
 {
     let mut count = 0;
+    let mut row = 0;
     let mut cursor = 0;
-    let mut i = 0;
-    while i < n {
-        let at = i * PAIR_WORDS;
-        count = count_gap(count, cursor, t[at]);
-        cursor = larger(cursor, t[at + 1]);
-        i += 1;
+    loop {
+        let next = next_range(t, n, len, row, cursor);
+        let Next::Range(found) = next else {
+            return count;
+        };
+        count += 1;
+        row = found.row;
+        cursor = found.cursor;
     }
-    count_gap(count, cursor, len)
+}
+
+// The starts and ends of the ranges that the first n rows of t leave.
+fn put_ranges(t: &[u64], n: usize, len: u64, out: &mut [u8], start: usize) -> usize
+    requires { ⌜ n * pair-words ≤ length (now t) ⌝ }
+    ensures { λ r. ⌜ Wrote (now (out .entry)) start (concat-map range-bytes (compute-gaps len 0 (ranges-in pair-words n (now (t .entry))))) (now (out .exit)) r ⌝ }
+{
+    let mut a = start;
+    let mut row = 0;
+    let mut cursor = 0;
+    loop {
+        let next = next_range(t, n, len, row, cursor);
+        let Next::Range(found) = next else {
+            return a;
+        };
+        a = put_le(out, a, found.start, 8);
+        a = put_le(out, a, found.end, 8);
+        row = found.row;
+        cursor = found.cursor;
+    }
 }
 
 // The CLR bytes of a file of len bytes in which the first n ranges of t, by start, are taken up.
@@ -109,14 +139,14 @@ fn put_clr(t: &[u64], n: usize, len: u64, out: &mut [u8]) -> usize
     requires { ⌜ n * pair-words ≤ length (now t) ⌝ }
     ensures { λ r. ⌜ Wrote (now (out .entry)) 0 (clr-bytes len (compute-gaps len 0 (ranges-in pair-words n (now (t .entry))))) (now (out .exit)) r ⌝ }
 {
-    let count = count_gaps(t, n, len);
+    let count = count_ranges(t, n, len);
     let mark = CLEAR_LIST_MARK;
     let a = put_bytes(out, 0, &mark);
     let a = put_le(out, a, 1, 2);
     let a = put_times(out, a, 0, 3);
     let a = put_le(out, a, len, 8);
     let a = put_le(out, a, count as u64, 8);
-    put_gaps(t, n, len, out, a)
+    put_ranges(t, n, len, out, a)
 }
 
 // The clear list of an accepted recording whose n block rows and m link rows stand in the tables, from the output's start on. What

@@ -6,7 +6,7 @@ use Rattle.clear_ranges.proofs.put_clr.Statement.{statement}
 use Rattle.clear_ranges.proofs.put_clr.Tie as tie
 
 returns : tie.Need-returns
-returns c = clr-is _ _ (c .before .before .before .before .before .before .before .before .before .before .before .before .before .before .before .before .before .before .before .before .before .before .before .before .before .count-gaps .ensures) (then (c .before .before .before .before .before .before .before .before .before .before .before .before .before .before .before .before .before .before .before .before .before .before .put-bytes .ensures) (then (c .before .before .before .before .before .before .before .before .before .before .before .before .before .before .before .before .before .before .put-le .ensures) (then (c .before .before .before .before .before .before .before .before .before .before .before .before .before .before .put-times .ensures) (then (c .before .before .before .before .before .before .before .before .before .before .put-le2 .ensures) (then (c .before .before .before .before .before .before .put-le3 .ensures) (c .before .before .put-gaps .ensures))))))
+returns c = clr-is _ _ (c .before .before .before .before .before .before .before .before .before .before .before .before .before .before .before .before .before .before .before .before .before .before .before .before .before .count-ranges .ensures) (then (c .before .before .before .before .before .before .before .before .before .before .before .before .before .before .before .before .before .before .before .before .before .before .put-bytes .ensures) (then (c .before .before .before .before .before .before .before .before .before .before .before .before .before .before .before .before .before .before .put-le .ensures) (then (c .before .before .before .before .before .before .before .before .before .before .before .before .before .before .put-times .ensures) (then (c .before .before .before .before .before .before .before .before .before .before .put-le2 .ensures) (then (c .before .before .before .before .before .before .put-le3 .ensures) (c .before .before .put-ranges .ensures))))))
 
 pub put-clr-spec : {M : Type 1} → statement M
 put-clr-spec =
