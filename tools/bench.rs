@@ -45,7 +45,7 @@ fn main() {
     let mut s = vec![0u64; 4 * rows + 4 * (data.len() / 8)];
     let whole = FileLayout::from_bytes(&data).expect("accepted");
     let mut o = vec![0u8; whole.to_text().len().max(whole.to_tree().len()).max(24 + 16 * rows)];
-    let mut a = [0u64; 9];
+    let mut a = [0u64; 10];
     let (mut ours, mut rust) = ([f64::MAX; 4], [f64::MAX; 3]);
     macro_rules! call {
         ($f:ident $(, $t:ident)*) => {

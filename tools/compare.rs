@@ -5,16 +5,19 @@
 //!
 //! The oracle's program is part of this one (ORACLE_MAIN names a copy of its main.rs whose `main` is renamed), so the Rust runs here,
 //! unchanged. So is the amended oracle's (AMENDED_MAIN; see amend.py): where the Rust panics on a channel's name with a block_len under
-//! 24, what is expected is the amended Rust's answer, and everywhere else both must answer alike. All four entries are called: compared
+//! 24, what is expected is the amended Rust's answer, and everywhere else both must answer alike. All six entries are called: compared
 //! are all words of the tables, listing and tree byte for byte, or the refusal's four numbers and all lent memory zero. The Rust has no
-//! clear list: its bytes are drawn here from the Rust's rows by the text of document 01 and of document 02's order 1, and zeroing its
-//! ranges must change neither the library's answers nor the Rust's. Of accepted recordings the lent lengths are varied: all just long
-//! enough, then each table a word short and the output a byte short (10 to 14). That is done for one damaged recording in eight; for the
-//! others with the scratch table only. All lent memory is filled with ones before each call, and so is one word or byte behind it, which
-//! must stay.
+//! clear list: its bytes are drawn here from the Rust's rows by the text of document 01 and of document 02's order 1. What the preview
+//! counts and the blanker leaves is drawn from these ranges, byte by byte; of all other calls the recording must be as it was. Blanking
+//! must change neither the Rust's answers nor the library's, but that the preview counts 0 throughout, and the blanker changes no byte
+//! again. Of accepted recordings, and of what their blanking leaves, the lent lengths are varied: all just long enough, then each table
+//! or the counts a word short and the output a byte short (10 to 14). That is done for one damaged recording in eight; for the others with
+//! the scratch table and the counts only. All lent memory is filled with ones before each call, and so is one word or byte behind it and
+//! behind the recording, which must stay.
 //!
-//! The clear list of an unfinalised recording is refused with 16 (document 02, order 4), also where gap table, scratch table and output
-//! are short or empty, but not before the walk's own refusals. A copy with both words 0 is held as well, as any recording.
+//! Clear list, preview and blanker refuse an unfinalised recording with 16 (document 02, order 4), also where gap table, scratch table,
+//! counts and output are short or empty, but not before the walk's own refusals. A copy with both words 0 is held as well, as any
+//! recording.
 //!
 //! Only recordings of at most 8,192 bytes are damaged, so that a million take minutes. Damaged are single bytes, the identification's
 //! fields, marks, block_len and links_nr, links, and the fields behind them; bytes are appended, linked blocks copied elsewhere, and
@@ -92,6 +95,25 @@ extern "C" {
         out: *mut u8, out_len: usize,
         answer: *mut u64, answer_len: usize,
     );
+    fn block_layout_c_preview(
+        data: *const u8, data_len: usize,
+        visited: *mut u64, visited_len: usize,
+        blocks: *mut u64, blocks_len: usize,
+        links: *mut u64, links_len: usize,
+        gaps: *mut u64, gaps_len: usize,
+        scratch: *mut u64, scratch_len: usize,
+        counts: *mut u64, counts_len: usize,
+        answer: *mut u64, answer_len: usize,
+    );
+    fn block_layout_c_blank(
+        data: *mut u8, data_len: usize,
+        visited: *mut u64, visited_len: usize,
+        blocks: *mut u64, blocks_len: usize,
+        links: *mut u64, links_len: usize,
+        gaps: *mut u64, gaps_len: usize,
+        scratch: *mut u64, scratch_len: usize,
+        answer: *mut u64, answer_len: usize,
+    );
 }
 
 #[derive(Clone, Copy, Debug, PartialEq)]
@@ -100,41 +122,66 @@ enum Entry {
     Text,
     Tree,
     Clear,
+    Preview,
+    Blank,
 }
 
-const ENTRIES: [Entry; 4] = [Entry::Layout, Entry::Text, Entry::Tree, Entry::Clear];
+const ENTRIES: [Entry; 6] = [Entry::Layout, Entry::Text, Entry::Tree, Entry::Clear, Entry::Preview, Entry::Blank];
 
-/// What is lent besides the answer: words of five tables, bytes of the output; a row of each, and the refusal of one too short.
-const LENT: [&str; 6] = ["visited", "blocks", "links", "gaps", "scratch", "output"];
-const ROW: [usize; 6] = [1, 12, 2, 2, 2, 1];
-const SHORT: [u64; 6] = [10, 11, 12, 13, 13, 14];
+impl Entry {
+    /// Whether it goes over the clear ranges: it takes a scratch table, and refuses unfinalised recordings.
+    fn clears(self) -> bool {
+        matches!(self, Entry::Clear | Entry::Preview | Entry::Blank)
+    }
+
+    fn has_output(self) -> bool {
+        matches!(self, Entry::Text | Entry::Tree | Entry::Clear)
+    }
+}
+
+/// What is lent besides the answer: words of five tables and of the counts, bytes of the output; a row of each, and the refusal of one too
+/// short.
+const LENT: [&str; 7] = ["visited", "blocks", "links", "gaps", "scratch", "counts", "output"];
+const ROW: [usize; 7] = [1, 12, 2, 2, 2, 1, 1];
+const SHORT: [u64; 7] = [10, 11, 12, 13, 13, 13, 14];
 const GAPS: usize = 3;
 const SCRATCH: usize = 4;
-const OUT: usize = 5;
+const COUNTS: usize = 5;
+const OUT: usize = 6;
 
-type Lengths = [usize; 6];
+type Lengths = [usize; 7];
 
-/// What a call leaves: the answer, and the words and bytes in use. All others are zero.
+/// Words of an answer.
+const ANSWER: usize = 10;
+
+/// What a call leaves: the answer, and the words and bytes in use. All others are zero. The recording is as it was, or as said here.
 struct Exit<'a> {
-    answer: [u64; 9],
-    tables: [&'a [u64]; 5],
+    answer: [u64; ANSWER],
+    tables: [&'a [u64]; 6],
     out: &'a [u8],
+    left: Option<&'a [u8]>,
 }
 
 fn refusal(r: [u64; 4]) -> Exit<'static> {
-    Exit { answer: [r[0], r[1], r[2], r[3], 0, 0, 0, 0, 0], tables: [&[]; 5], out: &[] }
+    let mut answer = [0; ANSWER];
+    answer[..4].copy_from_slice(&r);
+    Exit { answer, tables: [&[]; 6], out: &[], left: None }
 }
 
-/// Lent memory, with one word or byte more than is lent.
+/// Lent memory and the recording, with one word or byte more than is lent.
 #[derive(Default)]
 struct Lent {
-    answer: [u64; 10],
-    tables: [Vec<u64>; 5],
+    answer: [u64; ANSWER + 1],
+    tables: [Vec<u64>; 6],
     out: Vec<u8>,
+    data: Vec<u8>,
 }
 
 impl Lent {
-    fn fill(&mut self, n: &Lengths) {
+    fn fill(&mut self, data: &[u8], n: &Lengths) {
+        self.data.clear();
+        self.data.extend_from_slice(data);
+        self.data.push(u8::MAX);
         self.answer.fill(u64::MAX);
         for (t, n) in self.tables.iter_mut().zip(n) {
             t.clear();
@@ -145,18 +192,18 @@ impl Lent {
     }
 
     fn call(&mut self, entry: Entry, data: &[u8], n: &Lengths) {
-        self.fill(n);
-        let [visited, blocks, links, gaps, scratch] = &mut self.tables;
+        self.fill(data, n);
+        let [visited, blocks, links, gaps, scratch, counts] = &mut self.tables;
         macro_rules! lent {
             ($f:ident $(, $t:expr, $n:expr)*) => {
                 $f(
-                    data.as_ptr(), data.len(),
+                    self.data.as_mut_ptr(), data.len(),
                     visited.as_mut_ptr(), n[0],
                     blocks.as_mut_ptr(), n[1],
                     links.as_mut_ptr(), n[2],
                     gaps.as_mut_ptr(), n[GAPS],
                     $($t.as_mut_ptr(), $n,)*
-                    self.answer.as_mut_ptr(), 9,
+                    self.answer.as_mut_ptr(), ANSWER,
                 )
             };
         }
@@ -166,22 +213,27 @@ impl Lent {
                 Entry::Text => lent!(block_layout_c_text, self.out, n[OUT]),
                 Entry::Tree => lent!(block_layout_c_tree, self.out, n[OUT]),
                 Entry::Clear => lent!(block_layout_c_clear, scratch, n[SCRATCH], self.out, n[OUT]),
+                Entry::Preview => lent!(block_layout_c_preview, scratch, n[SCRATCH], counts, n[COUNTS]),
+                Entry::Blank => lent!(block_layout_c_blank, scratch, n[SCRATCH]),
             }
         }
     }
 
     /// The first part that isn't as the exit has it.
-    fn differs(&self, exit: &Exit) -> Option<String> {
-        if self.answer[..9] != exit.answer || self.answer[9] != u64::MAX {
-            return Some(format!("answer {:?}, wanted {:?}", &self.answer[..9], exit.answer));
+    fn differs(&self, data: &[u8], exit: &Exit) -> Option<String> {
+        if self.answer[..ANSWER] != exit.answer || self.answer[ANSWER] != u64::MAX {
+            return Some(format!("answer {:?}, wanted {:?}", &self.answer[..ANSWER], exit.answer));
         }
-        let table = (0..5).find(|k| !is(&self.tables[*k], exit.tables[*k], u64::MAX));
+        if !is(&self.data, exit.left.unwrap_or(data), u8::MAX) {
+            return Some("recording".to_string());
+        }
+        let table = (0..OUT).find(|k| !is(&self.tables[*k], exit.tables[*k], u64::MAX));
         table.or((!is(&self.out, exit.out, u8::MAX)).then_some(OUT)).map(|k| LENT[k].to_string())
     }
 
     fn check(&mut self, entry: Entry, data: &[u8], n: &Lengths, exit: &Exit, how: &str) -> Result<(), String> {
         self.call(entry, data, n);
-        match self.differs(exit) {
+        match self.differs(data, exit) {
             Some(what) => Err(format!("{entry:?}, {how}, lent {n:?}: {what}")),
             None => Ok(()),
         }
@@ -338,25 +390,40 @@ fn blanked(data: &[u8], clr: &[u8]) -> Vec<u8> {
     d
 }
 
+/// What the preview and the blanker make of an accepted recording, drawn from the CLR bytes: how many bytes of each range are not 0, and
+/// the recording with all of them zeroed.
+struct Blanking {
+    counts: Vec<u64>,
+    left: Vec<u8>,
+}
+
+fn blanking(data: &[u8], clr: &[u8]) -> Blanking {
+    let nonzero = |range: &[u8]| (u64_at(range, 0)..u64_at(range, 8)).filter(|at| data[*at as usize] != 0).count() as u64;
+    Blanking { counts: clr[24..].chunks(16).map(nonzero).collect(), left: blanked(data, clr) }
+}
+
 impl Whole {
-    fn exit(&self, entry: Entry) -> Exit<'_> {
+    fn exit<'a>(&'a self, entry: Entry, of: &'a Blanking) -> Exit<'a> {
         let t = &self.rows;
         let (blocks, out): (&[[u64; 12]], &[u8]) = match entry {
-            Entry::Layout => (&t.blocks, b""),
+            Entry::Layout | Entry::Preview | Entry::Blank => (&t.blocks, b""),
             Entry::Text => (&t.blocks, self.text.as_bytes()),
             Entry::Tree => (&self.marked, self.tree.as_bytes()),
             Entry::Clear => (&t.blocks, &self.clear),
         };
-        let counts = [t.visited.len(), t.blocks.len(), t.links.len(), t.gaps.len(), out.len()].map(|n| n as u64);
-        let mut answer = [0; 9];
-        answer[4..].copy_from_slice(&counts);
-        Exit { answer, tables: [&t.visited, blocks.as_flattened(), t.links.as_flattened(), t.gaps.as_flattened(), &[]], out }
+        let counts: &[u64] = if entry == Entry::Preview { &of.counts } else { &[] };
+        let rows = [t.visited.len(), t.blocks.len(), t.links.len(), t.gaps.len(), out.len() + counts.len()].map(|n| n as u64);
+        let mut answer = [0; ANSWER];
+        answer[4..9].copy_from_slice(&rows);
+        answer[9] = counts.iter().sum();
+        let tables = [&t.visited, blocks.as_flattened(), t.links.as_flattened(), t.gaps.as_flattened(), &[], counts];
+        Exit { answer, tables, out, left: (entry == Entry::Blank).then_some(&of.left) }
     }
 
-    fn exact(&self, entry: Entry) -> Lengths {
-        let exit = self.exit(entry);
-        let [v, b, l, g, _] = exit.tables.map(|t| t.len());
-        [v, b, l, g, if entry == Entry::Clear { 2 * self.scratch_rows } else { 0 }, exit.out.len()]
+    fn exact(&self, entry: Entry, of: &Blanking) -> Lengths {
+        let exit = self.exit(entry, of);
+        let [v, b, l, g, _, c] = exit.tables.map(|t| t.len());
+        [v, b, l, g, if entry.clears() { 2 * self.scratch_rows } else { 0 }, c, exit.out.len()]
     }
 
     /// The refusal if the k-th of the lent is a word or byte shorter than just enough.
@@ -385,12 +452,14 @@ fn links_at(data: &[u8], at: u64) -> u64 {
 }
 
 /// Lengths that suffice for any walk through the recording and aren't whole rows. Each row is shown once, and what is visited besides
-/// ID and HD is a shown link's target.
+/// ID and HD is a shown link's target. Clear ranges are at most one more than scratch rows.
 fn plenty(entry: Entry, data: &[u8], out: usize) -> Lengths {
     let links = marks(data).map(|at| links_at(data, at)).sum::<u64>() as usize;
     let rows = links + 2;
-    let scratch = if entry == Entry::Clear { 2 * (rows + 3 * links) + 1 } else { 0 };
-    [rows, 12 * rows + 5, 2 * links + 1, 2 * rows + 3, scratch, if entry == Entry::Layout { 0 } else { out + 7 }]
+    let scratch_rows = rows + 3 * links;
+    let scratch = if entry.clears() { 2 * scratch_rows + 1 } else { 0 };
+    let counts = if entry == Entry::Preview { scratch_rows + 3 } else { 0 };
+    [rows, 12 * rows + 5, 2 * links + 1, 2 * rows + 3, scratch, counts, if entry.has_output() { out + 7 } else { 0 }]
 }
 
 /// Whether the oracle has the same answer for the blanked recording.
@@ -398,48 +467,73 @@ fn same_blanked(blank: &[u8], w: &Whole) -> bool {
     matches!(want(blank).0, Want::Accepted(b) if b == *w)
 }
 
-/// Holds the clear list of an unfinalised recording: the refusal after the walk, whatever is lent for what comes behind it.
-fn hold_unfinalized(lent: &mut Lent, data: &[u8], w: &Whole, r: [u64; 4], every: bool) -> Result<(), String> {
-    let exact = w.exact(Entry::Clear);
-    lent.check(Entry::Clear, data, &plenty(Entry::Clear, data, w.clear.len()), &refusal(r), "unfinalised, plenty")?;
-    lent.check(Entry::Clear, data, &exact, &refusal(r), "unfinalised, exact")?;
+/// Which of the lent are tried a word or byte short: every one, or those that only the entries over the clear ranges have.
+fn tried<'a>(exact: &'a Lengths, every: bool) -> impl Iterator<Item = usize> + 'a {
+    (0..LENT.len()).filter(move |k| exact[*k] > 0 && (every || *k == SCRATCH || *k == COUNTS))
+}
+
+/// Holds an entry that goes over the clear ranges on an unfinalised recording: the refusal after the walk, whatever is lent for what comes
+/// behind it.
+fn hold_unfinalized(lent: &mut Lent, entry: Entry, data: &[u8], w: &Whole, r: [u64; 4], every: bool) -> Result<(), String> {
+    let exact = w.exact(entry, &blanking(data, &w.clear));
+    lent.check(entry, data, &plenty(entry, data, w.clear.len()), &refusal(r), "unfinalised, plenty")?;
+    lent.check(entry, data, &exact, &refusal(r), "unfinalised, exact")?;
     let [v, b, l, ..] = exact;
-    lent.check(Entry::Clear, data, &[v, b, l, 0, 0, 0], &refusal(r), "unfinalised, nothing for what follows the walk")?;
-    for k in (0..6).filter(|k| exact[*k] > 0 && (every || *k == SCRATCH)) {
+    lent.check(entry, data, &[v, b, l, 0, 0, 0, 0], &refusal(r), "unfinalised, nothing for what follows the walk")?;
+    for k in tried(&exact, every) {
         let mut n = exact;
         n[k] -= 1;
         let wanted = if k < GAPS { w.short(k, &exact) } else { r };
-        lent.check(Entry::Clear, data, &n, &refusal(wanted), &format!("unfinalised, {}", LENT[k]))?;
+        lent.check(entry, data, &n, &refusal(wanted), &format!("unfinalised, {}", LENT[k]))?;
     }
     Ok(())
 }
 
-/// Holds the library on an accepted recording; with every length varied, or the scratch table's only.
-fn hold_accepted(lent: &mut Lent, data: &[u8], w: &Whole, every: bool) -> Result<(), String> {
-    let unfinalized = unfinalized(data);
-    let blank = if unfinalized.is_some() { data.to_vec() } else { blanked(data, &w.clear) };
-    if blank != data && !same_blanked(&blank, w) {
-        return Err("the oracle's answer changes by blanking".to_string());
+/// Holds the preview without counts: 13, behind the scratch table's.
+fn hold_no_counts(lent: &mut Lent, data: &[u8], w: &Whole, exact: &Lengths) -> Result<(), String> {
+    let mut n = *exact;
+    n[COUNTS] = 0;
+    lent.check(Entry::Preview, data, &n, &refusal([13, 0, 0, exact[COUNTS] as u64]), "no counts")?;
+    n[SCRATCH] -= 1;
+    lent.check(Entry::Preview, data, &n, &refusal(w.short(SCRATCH, exact)), "no counts, scratch")
+}
+
+/// Holds an entry on an accepted recording; with every length varied, or the scratch table's and the counts' only.
+fn hold_entry(lent: &mut Lent, entry: Entry, data: &[u8], w: &Whole, of: &Blanking, every: bool) -> Result<(), String> {
+    let (exit, exact) = (w.exit(entry, of), w.exact(entry, of));
+    lent.check(entry, data, &plenty(entry, data, exit.out.len()), &exit, "plenty")?;
+    if every || entry.clears() {
+        lent.check(entry, data, &exact, &exit, "exact")?;
     }
+    for k in tried(&exact, every) {
+        let mut n = exact;
+        n[k] -= 1;
+        lent.check(entry, data, &n, &refusal(w.short(k, &exact)), LENT[k])?;
+    }
+    if exact[COUNTS] > 0 { hold_no_counts(lent, data, w, &exact) } else { Ok(()) }
+}
+
+/// Holds the library on what blanking leaves of an accepted recording: every entry answers as before, but that nothing is left to count.
+fn hold_blanked(lent: &mut Lent, blank: &[u8], w: &Whole, every: bool) -> Result<(), String> {
+    if !same_blanked(blank, w) {
+        return Err("the oracle's answer changes".to_string());
+    }
+    let of = blanking(blank, &w.clear);
+    assert!(of.left == blank && of.counts.iter().all(|n| *n == 0));
+    ENTRIES.iter().try_for_each(|e| hold_entry(lent, *e, blank, w, &of, every))
+}
+
+/// Holds the library on an accepted recording.
+fn hold_accepted(lent: &mut Lent, data: &[u8], w: &Whole, every: bool) -> Result<(), String> {
+    let (unfinalized, of) = (unfinalized(data), blanking(data, &w.clear));
     for entry in ENTRIES {
-        if let (Entry::Clear, Some(r)) = (entry, unfinalized) {
-            hold_unfinalized(lent, data, w, r, every)?;
-            continue;
+        match unfinalized {
+            Some(r) if entry.clears() => hold_unfinalized(lent, entry, data, w, r, every)?,
+            _ => hold_entry(lent, entry, data, w, &of, every)?,
         }
-        let (exit, exact) = (w.exit(entry), w.exact(entry));
-        let plenty = plenty(entry, data, exit.out.len());
-        lent.check(entry, data, &plenty, &exit, "plenty")?;
-        if blank != data {
-            lent.check(entry, &blank, &plenty, &exit, "blanked")?;
-        }
-        if every || entry == Entry::Clear {
-            lent.check(entry, data, &exact, &exit, "exact")?;
-        }
-        for k in (0..6).filter(|k| exact[*k] > 0 && (every || *k == SCRATCH)) {
-            let mut n = exact;
-            n[k] -= 1;
-            lent.check(entry, data, &n, &refusal(w.short(k, &exact)), LENT[k])?;
-        }
+    }
+    if unfinalized.is_none() && of.left != data {
+        hold_blanked(lent, &of.left, w, every).map_err(|what| format!("blanked: {what}"))?;
     }
     Ok(())
 }
@@ -454,6 +548,8 @@ struct Tally {
     accepted: u64,
     /// With clear ranges, of an unfinalised one those of its copy with both words 0.
     cleared: u64,
+    /// Of those, the ones that blanking changes.
+    blanked: u64,
     varied: u64,
     /// Of the accepted ones.
     unfinalized: u64,
@@ -474,7 +570,9 @@ impl Tally {
                 self.varied += every as u64;
                 let is_unfinalized = unfinalized(data).is_some();
                 self.unfinalized += is_unfinalized as u64;
-                self.cleared += (!is_unfinalized && w.clear.len() > 24) as u64;
+                if !is_unfinalized {
+                    self.count_clear(data, &w);
+                }
                 hold_accepted(lent, data, &w, every)?;
                 if is_unfinalized {
                     self.held_finalized(lent, data, every).map_err(|what| format!("with both words 0: {what}"))?;
@@ -493,13 +591,18 @@ impl Tally {
         }
     }
 
+    fn count_clear(&mut self, data: &[u8], w: &Whole) {
+        self.cleared += (w.clear.len() > 24) as u64;
+        self.blanked += (blanked(data, &w.clear) != data) as u64;
+    }
+
     /// Holds a copy with both words 0 to the oracle's answer for it. A link may lead to these bytes, so its rows may be others.
     fn held_finalized(&mut self, lent: &mut Lent, data: &[u8], every: bool) -> Result<(), String> {
         let mut copy = data.to_vec();
         copy[60..64].fill(0);
         match want(&copy).0 {
             Want::Accepted(w) => {
-                self.cleared += (w.clear.len() > 24) as u64;
+                self.count_clear(&copy, &w);
                 hold_accepted(lent, &copy, &w, every)
             }
             Want::Refused(r) => hold_refused(lent, &copy, r),
@@ -521,10 +624,11 @@ impl Tally {
     }
 
     fn print(&self) {
-        let Tally { accepted, cleared, varied, unfinalized, refused, changed, unnumbered, differ } = self;
+        let Tally { accepted, cleared, blanked, varied, unfinalized, refused, changed, unnumbered, differ } = self;
         let sum: u64 = refused.iter().sum();
         let each: Vec<String> = (1..10).filter(|k| refused[*k] > 0).map(|k| format!("{k}: {}", refused[k])).collect();
-        println!("{accepted} accepted ({cleared} with clear ranges, {varied} with every length varied; {unfinalized} unfinalised: 16),");
+        println!("{accepted} accepted ({cleared} with clear ranges, {blanked} of them changed by blanking; {varied} with every length varied;");
+        println!("{unfinalized} unfinalised: 16),");
         println!("{sum} refused ({}), {unnumbered} without a number;", each.join(", "));
         println!("{changed} of them held to the amended Rust; {differ} differ");
     }

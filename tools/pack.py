@@ -8,15 +8,16 @@ name a line: the amended answer counts where the Rust panics on a channel's name
 be alike. All of recordings/ are taken, and of each family of other names (all that stands before the first digit) an even sample. A
 recording of deep.py with 513 data lists is added; the Rust has no such limit, so its refusal is document 01's. Of one with 512,
 deep_lists_512.mf4, the tables alone are kept. Unfinalised recordings have no clear list (document 02, order 4): those that are accepted,
-but for tools/unfinalized.py's own, are added once more with both words 0.
+but for those of tools/unfinalized.py and tools/blank.py, are added once more with both words 0.
 
-The pack: for each recording 72 bytes, then its parts. First the ends of the parts as u32, counted from the first part on: recording,
-visited words, block words, link words, gap words, listing, tree, CLR bytes; a part that is not compared is empty. Then as u32 the
-rows that the clear list needs of its scratch table, and as u16 the two words with which refusal 16 answers it in place of CLR bytes
-(both 0: it does not). Then as u64: 0, and the places at which refusals 10, 11 and 12 come where the table is one row short (0: no row
-to be short of); or the refusal's number, place, a and b. CLR bytes are drawn from the rows by the text of document 01 and of document
-02's order 1 (tools/recorded.py), since the Rust has no clear list; those of tools/linked.py and tools/unfinalized.py are held against
-what is worked out there by hand.
+The pack: for each recording 80 bytes, then its parts. First the ends of the parts as u32, counted from the first part on: recording,
+visited words, block words, link words, gap words, listing, tree, CLR bytes, words of the preview's counts; a part that is not compared
+is empty. Then as u32 the rows that the clear list needs of its scratch table, as u16 the two words with which refusal 16 answers it in
+place of CLR bytes (both 0: it does not), and as u32 the counts' total. Then as u64: 0, and the places at which refusals 10, 11 and 12
+come where the table is one row short (0: no row to be short of); or the refusal's number, place, a and b. CLR bytes are drawn from the
+rows by the text of document 01 and of document 02's order 1 (tools/recorded.py), and the counts from these ranges and the recording,
+since the Rust has neither; those of tools/linked.py, tools/unfinalized.py and tools/blank.py are held against what is worked out
+there by hand.
 """
 import collections
 import os
@@ -26,6 +27,7 @@ import subprocess
 import sys
 import tempfile
 
+import blank
 import deep
 import linked
 import recorded
@@ -74,20 +76,27 @@ def quads(ws):
     return struct.pack("<%dQ" % len(ws), *ws)
 
 
-def record(file, tables, text, tree, clear, scratch, flags, four):
+def counts_of(file, clear):
+    """What a preview counts: of each range of the CLR bytes, the bytes that are not 0."""
+    ends = words(clear[24:])
+    return [sum(x != 0 for x in file[a:z]) for a, z in zip(ends[0::2], ends[1::2])]
+
+
+def record(file, tables, text, tree, clear, counts, scratch, flags, four):
     ends, out = [], b""
-    for part in [file] + [quads(t) for t in tables] + [text, tree, clear]:
+    for part in [file] + [quads(t) for t in tables] + [text, tree, clear, quads(counts)]:
         out += part
         ends.append(len(out))
-    return struct.pack("<9I2H4Q", *ends, scratch, *flags, *four) + out
+    return struct.pack("<10I2HI4Q", *ends, scratch, *flags, sum(counts), *four) + out
 
 
 def refused(name, file, four):
     unfinalized.check_refused(name, file, four)
-    return record(file, [[], [], [], []], b"", b"", b"", 0, (0, 0), four)
+    blank.check_refused(name, file, four)
+    return record(file, [[], [], [], []], b"", b"", b"", [], 0, (0, 0), four)
 
 
-def accepted(name, file, w, text, tree):
+def accepted(name, file, w, text, tree, count):
     v, b, l, g = w[1:5]
     cut = [5, 5 + v, 5 + v + 12 * b, 5 + v + 12 * b + 2 * l, 5 + v + 12 * b + 2 * l + 2 * g]
     visited, blocks, links, gaps = [w[x:y] for x, y in zip(cut, cut[1:])]
@@ -104,8 +113,14 @@ def accepted(name, file, w, text, tree):
     if any(flags):
         clear = b""
     unfinalized.check(name, file, flags, scratch, clear)
+    counts = counts_of(file, clear)
+    blank.check(name, file, scratch, clear, counts)
+    count["blanked"] += not any(flags)
+    count["blanked, bytes changed"] += any(counts)
+    count["clear ranges"] += len(counts)
+    count["clear ranges not 0"] += sum(n != 0 for n in counts)
     places = [0, visited[-1], listed[-1], showing[-1] if showing else 0]
-    return record(file, [visited, blocks, links, gaps], text, tree, clear, scratch, flags, places)
+    return record(file, [visited, blocks, links, gaps], text, tree, clear, counts, scratch, flags, places)
 
 
 def sample(names):
@@ -128,7 +143,7 @@ def put(o, count, name, parts, changed):
     count["amended"] += changed
     count["unfinalised"] += is_unfinalized
     if w[0] == 0:
-        o.write(accepted(name, file, w, text, tree))
+        o.write(accepted(name, file, w, text, tree, count))
         count["accepted"] += 1
         count.update("kind %d" % k for k in set(w[5 + w[1] + 4:5 + w[1] + 12 * w[2]:12]))
     elif w[0] == 1:
@@ -161,7 +176,7 @@ def main():
                 parts[2:] = b"", b""
             elif i not in taken or sum(map(len, parts)) > LARGEST:
                 continue
-            if put(o, count, name, parts, changed) and name not in unfinalized.MADE:
+            if put(o, count, name, parts, changed) and name not in unfinalized.MADE | blank.MADE:
                 again.append(parts[0])
         put_finalized(o, count, oracle, amended, again)
         o.write(refused("", deep.lists(513), [15, 232 + 56 * 512, 512, 0]))

@@ -4,7 +4,7 @@ use mathlib.Core.List.{List}
 use Prim.Native.Nat.{ℕ}
 use Rattle.mdf4.specs.Act.{Out}
 use Rattle.mdf4.specs.Answers.{Counts, Exit}
-use Rattle.block_layout.specs.Entries.{exit-with}
+use Rattle.answers.specs.Entries.{exit-with}
 use Rattle.block_layout_c.specs.Words.{answer-words, stored}
 
 module _ (a : Out Counts) (v b l g s o : List ℕ) (x : Exit) (h : exit-with a v b l g s o ≡ x) where

@@ -10,10 +10,10 @@ use Rattle.mdf4.specs.Act.{Out, ok, err}
 use Rattle.mdf4.specs.Answers.{Counts}
 use Rattle.block_layout_c.specs.Words.{answer-words, stored}
 
-pub nine : (a : Out Counts) → length (answer-words a) ≡ 9
+pub ten : (a : Out Counts) → length (answer-words a) ≡ 10
 unfolding answer-words
-nine (ok c) = refl
-nine (err e) = refl
+ten (ok c) = refl
+ten (err e) = refl
 
 -- i of the words ws stand in front, the rest of t₀ is as it was
 pub record Storing (t₀ ws t : List ℕ) (i : ℕ) : Type 0 where
@@ -41,10 +41,10 @@ store-more t₀ ws t i s h k =
       is = rw add-one (ap (λ (u : List ℕ). set u i x) (s .is) ∙ more);
     }
 
--- the nine words of an answer, as far as they fit
-pub nine-stored : (a : Out Counts) {t₀ ws t : List ℕ} {i : ℕ} → ws ≡ answer-words a → Storing t₀ ws t i → min 9 (length t₀) ≤ i → t ≡ stored (answer-words a) t₀
+-- the ten words of an answer, as far as they fit
+pub ten-stored : (a : Out Counts) {t₀ ws t : List ℕ} {i : ℕ} → ws ≡ answer-words a → Storing t₀ ws t i → min 10 (length t₀) ≤ i → t ≡ stored (answer-words a) t₀
 unfolding stored
-nine-stored a {t₀} {ws} {t} {i} w s h =
-    let n : length (answer-words a) ≡ 9 = nine a in
+ten-stored a {t₀} {ws} {t} {i} w s h =
+    let n : length (answer-words a) ≡ 10 = ten a in
     let e : i ≡ min (length (answer-words a)) (length t₀) = omega (arith, s .inn, s .fits, ap length w) in
     s .is ∙ ap (λ (us : List ℕ). take i us ++ drop i t₀) w ∙ ap (λ (j : ℕ). take j (answer-words a) ++ drop j t₀) e

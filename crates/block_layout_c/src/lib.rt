@@ -3,18 +3,18 @@
 ghost use mathlib.Core.Path.{_≡_};
 ghost use mathlib.Core.List.{[]};
 ghost use lib.ListN.{length};
-ghost use Rattle.mdf4.specs.Answers.{layout-exit, to-text-exit, to-tree-exit, clear-list-exit};
+ghost use Rattle.mdf4.specs.Answers.{layout-exit, to-text-exit, to-tree-exit, clear-list-exit, blank-exit, blank-recording, preview-exit};
 ghost use Rattle.file_layout.specs.Tables.{lent};
-ghost use Rattle.block_layout.specs.Entries.{answered, exit-with};
+ghost use Rattle.answers.specs.Entries.{answered, exit-with};
 ghost use Rattle.block_layout_c.specs.Words.{answer-words, stored};
 use block_layout::Answer;
 
 // Words of an answer.
-const ANSWER_WORDS: usize = 9;
+const ANSWER_WORDS: usize = 10;
 
 // The words of an answer: number (0 where it is accepted), place, a and b; then the rows of the visited, block, link and gap tables
-// and the bytes of the output in use.
-fn words_of(answer: Answer) -> [u64; 9]
+// and the bytes of the output in use, or the number of the preview's counts, and the counts' total.
+fn words_of(answer: Answer) -> [u64; 10]
     ensures { λ r. ⌜ r ≡ answer-words (answered answer) ⌝ }
 {
     match answer {
@@ -24,6 +24,7 @@ fn words_of(answer: Answer) -> [u64; 9]
             links,
             gaps,
             bytes,
+            total,
         } => [
             0,
             0,
@@ -34,15 +35,16 @@ fn words_of(answer: Answer) -> [u64; 9]
             links as u64,
             gaps as u64,
             bytes as u64,
+            total,
         ],
         Answer::Refused(e) => {
             let n = e.numbers();
-            [n.number, n.place, n.a, n.b, 0, 0, 0, 0, 0]
+            [n.number, n.place, n.a, n.b, 0, 0, 0, 0, 0, 0]
         }
     }
 }
 
-// The words of an answer go into the words lent for it: those that fit, and what is lent behind the ninth is left as it was.
+// The words of an answer go into the words lent for it: those that fit, and what is lent behind the tenth is left as it was.
 fn store_answer(words: &mut [u64], answer: Answer)
     ensures { λ r. ⌜ now (words .exit) ≡ stored (answer-words (answered answer)) (now (words .entry)) ⌝ }
 {
@@ -126,5 +128,43 @@ pub extern "C" fn block_layout_c_clear(
     ensures answer { λ r. ⌜ now (answer .exit) ≡ stored (answer-words (clear-list-exit (lent (now (visited .entry)) (now (blocks .entry)) (now (links .entry)) (now (gaps .entry)) (length (now (scratch .entry))) (length (now (out .entry)))) (now («data» .entry)) .answer)) (now (answer .entry)) ⌝ }
 {
     let r = block_layout::clear_list(data, visited, blocks, links, gaps, scratch, out);
+    store_answer(answer, r);
+}
+
+// The entry `blank`: the recording is lent to be written.
+#[no_mangle]
+pub extern "C" fn block_layout_c_blank(
+    data: &mut [u8],
+    visited: &mut [u64],
+    blocks: &mut [u64],
+    links: &mut [u64],
+    gaps: &mut [u64],
+    scratch: &mut [u64],
+    answer: &mut [u64],
+)
+    ensures tables { λ r. ⌜ exit-with (blank-exit (lent (now (visited .entry)) (now (blocks .entry)) (now (links .entry)) (now (gaps .entry)) (length (now (scratch .entry))) 0) (now («data» .entry)) .answer) (now (visited .exit)) (now (blocks .exit)) (now (links .exit)) (now (gaps .exit)) (now (scratch .exit)) [] ≡ blank-exit (lent (now (visited .entry)) (now (blocks .entry)) (now (links .entry)) (now (gaps .entry)) (length (now (scratch .entry))) 0) (now («data» .entry)) ⌝ }
+    ensures answer { λ r. ⌜ now (answer .exit) ≡ stored (answer-words (blank-exit (lent (now (visited .entry)) (now (blocks .entry)) (now (links .entry)) (now (gaps .entry)) (length (now (scratch .entry))) 0) (now («data» .entry)) .answer)) (now (answer .entry)) ⌝ }
+    ensures recording { λ r. ⌜ now («data» .exit) ≡ blank-recording (lent (now (visited .entry)) (now (blocks .entry)) (now (links .entry)) (now (gaps .entry)) (length (now (scratch .entry))) 0) (now («data» .entry)) ⌝ }
+{
+    let r = block_layout::blank(data, visited, blocks, links, gaps, scratch);
+    store_answer(answer, r);
+}
+
+// The entry `preview`.
+#[no_mangle]
+pub extern "C" fn block_layout_c_preview(
+    data: &[u8],
+    visited: &mut [u64],
+    blocks: &mut [u64],
+    links: &mut [u64],
+    gaps: &mut [u64],
+    scratch: &mut [u64],
+    counts: &mut [u64],
+    answer: &mut [u64],
+)
+    ensures tables { λ r. ⌜ exit-with (preview-exit (lent (now (visited .entry)) (now (blocks .entry)) (now (links .entry)) (now (gaps .entry)) (length (now (scratch .entry))) (length (now (counts .entry)))) (now («data» .entry)) .answer) (now (visited .exit)) (now (blocks .exit)) (now (links .exit)) (now (gaps .exit)) (now (scratch .exit)) (now (counts .exit)) ≡ preview-exit (lent (now (visited .entry)) (now (blocks .entry)) (now (links .entry)) (now (gaps .entry)) (length (now (scratch .entry))) (length (now (counts .entry)))) (now («data» .entry)) ⌝ }
+    ensures answer { λ r. ⌜ now (answer .exit) ≡ stored (answer-words (preview-exit (lent (now (visited .entry)) (now (blocks .entry)) (now (links .entry)) (now (gaps .entry)) (length (now (scratch .entry))) (length (now (counts .entry)))) (now («data» .entry)) .answer)) (now (answer .entry)) ⌝ }
+{
+    let r = block_layout::preview(data, visited, blocks, links, gaps, scratch, counts);
     store_answer(answer, r);
 }

@@ -1,18 +1,17 @@
--- The clear list of an accepted recording, from the scratch table.
+-- The clear ranges of an accepted recording, from the scratch table.
 use mathlib.Core.Path.{_≡_, refl, sym, ap, _∙_}
 use mathlib.Core.Bool.{Bool, true, false, cond, not, _||_, _&&_, and-false}
 use mathlib.Core.List.{List, [], _∷_, _++_, map}
 use Prim.Native.Nat.{ℕ, suc, _+_, _/_, _≤_, _<_, max}
 use native.Mathlib.Omega.{arith}
 use lib.Dec.{ltb}
-use lib.ListN.{length, replicate}
+use lib.ListN.{length}
 use borrow.Author.Tests.{le-leb, lt-leb, le-ltb, ltb-true, ltb-false}
-use Rattle.fmt.specs.Text.{ascii, Wrote}
 use Rattle.mdf4.specs.Bytes.{Range, within, inside, count, concat-map}
-use Rattle.mdf4.specs.Act.{refusal, Out, ok, err, and-then, check, State}
+use Rattle.mdf4.specs.Act.{ok, check, State}
 use Rattle.mdf4.specs.Reads.{spared-ranges}
 use Rattle.mdf4.specs.Layout.{sort, extent, gap, compute-gaps, Layout, layout-of}
-use Rattle.mdf4.specs.Clear.{is-clear, none, close, le-bytes, range-bytes, clr-bytes, clear-ranges}
+use Rattle.mdf4.specs.Clear.{is-clear, none, close, clear-ranges}
 use Rattle.mdf4.specs.Answers.{room}
 use Rattle.mdf4.specs.Demand3.{Apart, ranges-in}
 use Rattle.mdf4.proofs.Bytes.{not-or, inside-append}
@@ -28,8 +27,8 @@ use Rattle.tables.specs.Rows.{held-rows, held-links}
 use Rattle.tables.proofs.Gapping.{listed, pushed-then}
 use Rattle.mdf4.proofs.Demand3.{pairs-in}
 use Rattle.scratch_rows.specs.Covers.{row-cover, link-cover, covers}
-use Rattle.clear_ranges.specs.Lists.{ClearMet}
-use Rattle.clear_ranges.specs.declared.Cleared.the-variants.{Bytes, Refused}
+use Rattle.clear_ranges.specs.Spared.{SparedMet, spared-room}
+use Rattle.clear_ranges.specs.declared.Spared.the-variants.{Rows, Refused}
 use Rattle.blocks.specs.declared.error.MdfError.the-variants.{TableTooShort}
 use Rattle.scratch_rows.proofs.Covering.{Taken, covers-length, covers-inside, covers-taken}
 use Rattle.clear_ranges.proofs.SortedRanges.{sorted-inside, sorted-all, sorted-ordered}
@@ -103,14 +102,6 @@ module _ (r : List ℕ) (s : State) (v : Inv r s) where
       apart-unique 0 (compute-gaps (length r) 0 ps) (clear-ranges r (layout-of r s)) (gaps-apart (length r) 0 0 ps (omega arith) a) clear-apart
       (λ j. gaps-inside (length r) j ps o a ∙ rw (h j) (sym (clear-inside j)))
 
--- The CLR bytes
-
-pub clr-is : (len : ℕ) (gs : List Range) {n : ℕ} {out out' : List ℕ} {at : ℕ} → n ≡ length gs
-    → Wrote out 0 (ascii "CLR" ++ (le-bytes 2 1 ++ (replicate 3 0 ++ (le-bytes 8 len ++ (le-bytes 8 n ++ concat-map range-bytes gs))))) out' at
-    → Wrote out 0 (clr-bytes len gs) out' at
-unfolding clr-bytes le-bytes concat-map
-clr-is len gs e w = rw (← e) w
-
 -- The answers
 
 module _ (r b l : List ℕ) (n m : ℕ) {s s1 s2 : List ℕ} {c1 c : ℕ}
@@ -130,16 +121,13 @@ module _ (r b l : List ℕ) (n m : ℕ) {s s1 s2 : List ℕ} {c1 c : ℕ}
     holds : (j : ℕ) → inside j (covers r (held-rows n b) (held-links m l)) ≡ (inside j (map extent (sort (y .state .rows))) || inside j (spared-ranges r (y .state)))
     holds j = rw (sorted-are, ← e2) (covers-inside r (y .state) v j)
 
-    abbrev answer : Out (List ℕ)
-    answer = and-then (room (length s / 2) (length (spared-ranges r (y .state)))) (λ u. ok (clr-bytes (length r) (clear-ranges r y)))
+    pub refused-at : length s / 2 < c → SparedMet (Refused (TableTooShort (length s / 2) c)) r y (length s) s2
+    unfolding room check
+    refused-at h = record { says = rw (← needed, lt-leb c (length s / 2) h) }
 
-    refused-at : length s / 2 < c → answer ≡ err (refusal 13 0 (length s / 2) c)
-    unfolding room and-then check
-    refused-at h = rw (← needed, lt-leb c (length s / 2) h)
-
-    accepted-at : c ≤ length s / 2 → answer ≡ ok (clr-bytes (length r) (clear-ranges r y))
-    unfolding room and-then check
-    accepted-at h = rw (← needed, le-leb c (length s / 2) h)
+    room-at : c ≤ length s / 2 → spared-room r y (length s) ≡ ok tt
+    unfolding room check
+    room-at h = rw (← needed, le-leb c (length s / 2) h)
 
     -- the sorted scratch table leaves just the clear bytes
     clear-at : Printable r n b m l → c ≤ length s / 2 → {s3 : List ℕ} → Sorted 2 c s2 s3 → compute-gaps (length r) 0 (ranges-in 2 c s3) ≡ clear-ranges r y
@@ -151,12 +139,5 @@ module _ (r b l : List ℕ) (n m : ℕ) {s s1 s2 : List ℕ} {c1 c : ℕ}
         let o : Ordered 0 (ranges-in 2 c s3) = sorted-ordered c s2 s3 w (all-map _ _ (λ q x. x .0) (ranges-in 2 c s3) a) in
         clear-is r (y .state) v (ranges-in 2 c s3) o a (λ j. sorted-inside c s2 s3 w j ∙ ap (inside j) t ∙ holds j) ∙ ap (clear-ranges r) (sym e3)
 
-  pub refused : {out out' : List ℕ} → length s / 2 < c → (y : Layout) → y .blocks ≡ held-rows n b → y .state .links ≡ held-links m l → Inv r (y .state) → y ≡ layout-of r (y .state)
-      → ClearMet (Refused (TableTooShort (length s / 2) c)) out out' (and-then (room (length s / 2) (length (spared-ranges r (y .state)))) (λ u. ok (clr-bytes (length r) (clear-ranges r y))))
-  refused h y e1 e2 v e3 = record { says = refused-at y e1 e2 v e3 h }
-
-  pub written : Printable r n b m l → c ≤ length s / 2 → {s3 : List ℕ} → Sorted 2 c s2 s3 → {out out' : List ℕ} {at : ℕ}
-      → Wrote out 0 (clr-bytes (length r) (compute-gaps (length r) 0 (ranges-in 2 c s3))) out' at
-      → (y : Layout) → y .blocks ≡ held-rows n b → y .state .links ≡ held-links m l → Inv r (y .state) → y ≡ layout-of r (y .state)
-      → ClearMet (Bytes at) out out' (and-then (room (length s / 2) (length (spared-ranges r (y .state)))) (λ u. ok (clr-bytes (length r) (clear-ranges r y))))
-  written p h w q y e1 e2 v e3 = record { says = (clr-bytes (length r) (clear-ranges r y), accepted-at y e1 e2 v e3 h, rw (clear-at y e1 e2 v e3 p h w) at q) }
+    pub sorted-at : Printable r n b m l → c ≤ length s / 2 → {s3 : List ℕ} → Sorted 2 c s2 s3 → SparedMet (Rows c) r y (length s) s3
+    sorted-at p h w = record { says = (room-at h, record { fits = omega (arith, w .moved .long, long); are = clear-at p h w }) }

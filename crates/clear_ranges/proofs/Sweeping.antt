@@ -1,20 +1,16 @@
--- The sweep over sorted ranges: one law for every loop over what they leave; and little-endian bytes one by one.
+-- The sweep over sorted ranges: one law for every loop over what they leave.
 use mathlib.Core.Path.{_≡_, refl, sym, ap, _∙_}
 use mathlib.Core.Bool.{Bool, true, false, cond}
 use mathlib.Core.List.{List, [], _∷_, _++_, append-assoc, append-nil}
-use Prim.Native.Nat.{ℕ, zero, suc, _+_, _-_, _*_, _/_, _%_, _≤_, _<_, max}
+use Prim.Native.Nat.{ℕ, zero, suc, _+_, _*_, _≤_, _<_, max}
 use native.Mathlib.Omega.{arith}
 use lib.Dec.{ltb}
 use lib.ListN.{length, getD, drop, length-append}
 use borrow.Author.Tests.{lt-ltb, le-ltb}
-use Rattle.fmt.specs.Text.{Wrote}
-use Rattle.fmt.proofs.Text.{none, then}
-use Rattle.mdf4.specs.Bytes.{Range, concat-map}
+use Rattle.mdf4.specs.Bytes.{Range}
 use Rattle.mdf4.specs.Layout.{gap, compute-gaps}
-use Rattle.mdf4.specs.Clear.{le-bytes, range-bytes}
 use Rattle.mdf4.specs.Demand3.{ranges-in}
-use Rattle.tables.proofs.Gapping.{ranges-from, ranges-cons, ranges-none, ranges-all}
-use Rattle.mdf4.proofs.Lists.{concat-map-append}
+use Rattle.tables.proofs.Gapping.{ranges-cons, ranges-none, ranges-all}
 use Rattle.clear_ranges.specs.Sweep.{left-from, NextMet}
 use Rattle.clear_ranges.specs.declared.Found.{Found}
 use Rattle.clear_ranges.specs.declared.Next.{Next}
@@ -66,13 +62,14 @@ module _ {P : List Range → Type 0} {len n : ℕ} {t : List ℕ} where
   going p = record { found = []; all = left-start len n t; holds = p }
 
   module _ {row cursor : ℕ} {x : Next} (s : Going P len n t row cursor) (m : NextMet x len n t row cursor) where
+    -- where the next range stands among all
+    pub among : {g : Found} → x ≡ next.Range g → s .found ++ (g .start, g .end) ∷ left-from len n t (g .row) (g .cursor) ≡ compute-gaps len 0 (ranges-in 2 n t)
+    among e = let k = rw e at m in rw (k .is) at (s .all)
+
     pub turn : {Q : List Range → Type 0} {g : Found} → x ≡ next.Range g
         → ((ps rest : List Range) → ps ++ (g .start, g .end) ∷ rest ≡ compute-gaps len 0 (ranges-in 2 n t) → P ps → Q (ps ++ (g .start, g .end) ∷ []))
         → Going Q len n t (g .row) (g .cursor)
-    turn {g = g} e f =
-        let k = rw e at m in
-        let z : s .found ++ (g .start, g .end) ∷ left-from len n t (g .row) (g .cursor) ≡ compute-gaps len 0 (ranges-in 2 n t) = rw (k .is) at (s .all) in
-        record { found = s .found ++ (g .start, g .end) ∷ []; all = append-assoc (s .found) _ _ ∙ z; holds = f (s .found) _ z (s .holds) }
+    turn {g = g} e f = record { found = s .found ++ (g .start, g .end) ∷ []; all = append-assoc (s .found) _ _ ∙ among e; holds = f (s .found) _ (among e) (s .holds) }
 
     pub done : x ≡ next.End → P (compute-gaps len 0 (ranges-in 2 n t))
     done e = let k = rw e at m in let z : s .found ≡ compute-gaps len 0 (ranges-in 2 n t) = sym (append-nil (s .found)) ∙ rw (k .is) at (s .all) in rw (← z) (s .holds)
@@ -110,39 +107,3 @@ count-most {count} {len} {n} {t} {row} {cursor} s =
 
 pub count-turn : {count : ℕ} (g : Range) (ps : List Range) → count ≡ length ps → count + 1 ≡ length (ps ++ g ∷ [])
 count-turn g ps e = rw length-append (omega (arith, e))
-
--- written so far
-pub write-none : (out : List ℕ) (at : ℕ) → Wrote out at (concat-map range-bytes []) out at
-unfolding concat-map
-write-none out at = none out at
-
-pub write-turn : {out out' out'' : List ℕ} {at at' at'' : ℕ} (a b : ℕ) (ps : List Range) → Wrote out at (concat-map range-bytes ps) out' at'
-    → Wrote out' at' (le-bytes 8 a ++ le-bytes 8 b) out'' at'' → Wrote out at (concat-map range-bytes (ps ++ (a, b) ∷ [])) out'' at''
-unfolding concat-map range-bytes
-write-turn a b ps u v = rw (concat-map-append, append-nil) (then u v)
-
--- the bytes of x before byte i of n, and what is left of x
-pub record Lesser (n x : ℕ) (out : List ℕ) (at : ℕ) (out' : List ℕ) (at' left i : ℕ) : Type 0 where
-  pub done : List ℕ
-  pub is : done ++ le-bytes (n - i) left ≡ le-bytes n x
-  pub wrote : Wrote out at done out' at'
-
-pub le-start : (n x : ℕ) (out : List ℕ) (at : ℕ) → Lesser n x out at out at x 0
-le-start n x out at = let e : n - 0 ≡ n = omega arith in record { done = []; is = rw e refl; wrote = none out at }
-
-pub le-turn : {n x : ℕ} {out : List ℕ} {at : ℕ} {out' : List ℕ} {at' left i : ℕ} {out'' : List ℕ} {at'' : ℕ}
-    → Lesser n x out at out' at' left i → i < n → Wrote out' at' (left % 256 ∷ []) out'' at'' → Lesser n x out at out'' at'' (left / 256) (i + 1)
-unfolding le-bytes
-le-turn {n} {left = left} {i} s h w =
-    let e : n - i ≡ suc (n - (i + 1)) = omega arith in
-    record {
-      done = s .done ++ left % 256 ∷ [];
-      is = append-assoc (s .done) (left % 256 ∷ []) _ ∙ (sym (rw e refl) ∙ s .is);
-      wrote = then (s .wrote) w;
-    }
-
-pub le-last : {n x : ℕ} {out : List ℕ} {at : ℕ} {out' : List ℕ} {at' left i : ℕ} → Lesser n x out at out' at' left i → n ≤ i → Wrote out at (le-bytes n x) out' at'
-unfolding le-bytes
-le-last {n} {left = left} {i} s h =
-    let e : n - i ≡ 0 = omega arith in
-    rw (← s .is, e, append-nil) (s .wrote)

@@ -1,3 +1,3 @@
--- What the clear list answers, and the sweep behind it. No file here holds a proof.
-pub mod Lists
+-- What stands in the scratch table, and the sweep over it. No file here holds a proof.
+pub mod Spared
 pub mod Sweep

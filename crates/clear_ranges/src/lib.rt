@@ -1,52 +1,53 @@
-// The clear list behind the walk: the ranges of the scratch table in order, and what they leave.
+// The clear ranges of an accepted recording: the scratch table takes a row for each range that is not clear, by start, and the sweep
+// over the rows finds what they leave. Clear list, blanker and preview go over the ranges by it.
 ghost use mathlib.Core.Path.{_≡_};
-ghost use Prim.Native.Nat.{_*_, _/_, _≤_};
+ghost use Prim.Native.Nat.{_*_, _≤_};
 ghost use lib.ListN.{length};
-ghost use Rattle.fmt.specs.Text.{Wrote};
-ghost use Rattle.mdf4.specs.Bytes.{concat-map};
-ghost use Rattle.mdf4.specs.Act.{ok, and-then};
-ghost use Rattle.mdf4.specs.Reads.{spared-ranges};
 ghost use Rattle.mdf4.specs.Layout.{compute-gaps, Layout, layout-of};
-ghost use Rattle.mdf4.specs.Clear.{le-bytes, range-bytes, clr-bytes, clear-ranges};
-ghost use Rattle.mdf4.specs.Answers.{pair-words, room};
+ghost use Rattle.mdf4.specs.Answers.{pair-words};
 ghost use Rattle.mdf4.specs.Demand3.{ranges-in};
 ghost use Rattle.mdf4.proofs.Good.{Inv};
 ghost use Rattle.tables.specs.Laid.{Printable};
 ghost use Rattle.tables.specs.Rows.{held-rows, held-links};
-ghost use Rattle.clear_ranges.specs.Lists.{ClearMet};
+ghost use Rattle.clear_ranges.specs.Spared.{SparedMet};
 ghost use Rattle.clear_ranges.specs.Sweep.{NextMet};
 use blocks::error::MdfError;
-use fmt::put;
-use fmt::put_bytes;
-use fmt::put_times;
 use scratch_rows::put_blocks;
 use scratch_rows::put_links;
 use tables::PAIR_WORDS;
 use tables::larger;
 use tables::sort_rows;
 
-// The mark at the head of a clear list.
-pub const CLEAR_LIST_MARK: [u8; 3] = *b"CLR";
-
-pub enum Cleared {
-    // how many bytes were to be written
-    Bytes(usize),
+pub enum Spared {
+    // the rows in use
+    Rows(usize),
     Refused(MdfError),
 }
 
-// The n least bytes of x, least first.
-fn put_le(out: &mut [u8], at: usize, x: u64, n: usize) -> usize
-    ensures { λ r. ⌜ Wrote (now (out .entry)) at (le-bytes n x) (now (out .exit)) r ⌝ }
+// The ranges that are not clear, of an accepted recording whose n block rows and m link rows stand in the tables: rows of the scratch
+// table, by start. What stands in it behind a refusal is left free.
+pub fn sort_spared(
+    file: &[u8],
+    blocks: &[u64],
+    n: usize,
+    links: &[u64],
+    m: usize,
+    scratch: &mut [u64],
+) -> Spared
+    requires { ⌜ Printable (now file) n (now blocks) m (now links) ⌝ }
+    ensures { λ r. ⌜ ((y : Layout) → y .blocks ≡ held-rows n (now (blocks .entry)) → y .state .links ≡ held-links m (now (links .entry)) → Inv (now (file .entry)) (y .state) → y ≡ layout-of (now (file .entry)) (y .state) → SparedMet r (now (file .entry)) y (length (now (scratch .entry))) (now (scratch .exit))) ⌝ }
 {
-    let mut a = at;
-    let mut left = x;
-    let mut i = 0;
-    while i < n {
-        a = put(out, a, (left % 256) as u8);
-        left = left / 256;
-        i += 1;
+    let lent = scratch.len() / PAIR_WORDS;
+    let taken = put_blocks(file, blocks, n, scratch);
+    let count = put_links(file, links, m, scratch, taken);
+    if lent < count {
+        return Spared::Refused(MdfError::TableTooShort {
+            lent: lent as u64,
+            needed: count as u64,
+        });
     }
-    a
+    sort_rows(scratch, PAIR_WORDS, count);
+    Spared::Rows(count)
 }
 
 // A range that rows leave, and where the sweep over them goes on behind it.
@@ -112,66 +113,4 @@ pub fn count_ranges(t: &[u64], n: usize, len: u64) -> usize
         row = found.row;
         cursor = found.cursor;
     }
-}
-
-// The starts and ends of the ranges that the first n rows of t leave.
-fn put_ranges(t: &[u64], n: usize, len: u64, out: &mut [u8], start: usize) -> usize
-    requires { ⌜ n * pair-words ≤ length (now t) ⌝ }
-    ensures { λ r. ⌜ Wrote (now (out .entry)) start (concat-map range-bytes (compute-gaps len 0 (ranges-in pair-words n (now (t .entry))))) (now (out .exit)) r ⌝ }
-{
-    let mut a = start;
-    let mut row = 0;
-    let mut cursor = 0;
-    loop {
-        let next = next_range(t, n, len, row, cursor);
-        let Next::Range(found) = next else {
-            return a;
-        };
-        a = put_le(out, a, found.start, 8);
-        a = put_le(out, a, found.end, 8);
-        row = found.row;
-        cursor = found.cursor;
-    }
-}
-
-// The CLR bytes of a file of len bytes in which the first n ranges of t, by start, are taken up.
-fn put_clr(t: &[u64], n: usize, len: u64, out: &mut [u8]) -> usize
-    requires { ⌜ n * pair-words ≤ length (now t) ⌝ }
-    ensures { λ r. ⌜ Wrote (now (out .entry)) 0 (clr-bytes len (compute-gaps len 0 (ranges-in pair-words n (now (t .entry))))) (now (out .exit)) r ⌝ }
-{
-    let count = count_ranges(t, n, len);
-    let mark = CLEAR_LIST_MARK;
-    let a = put_bytes(out, 0, &mark);
-    let a = put_le(out, a, 1, 2);
-    let a = put_times(out, a, 0, 3);
-    let a = put_le(out, a, len, 8);
-    let a = put_le(out, a, count as u64, 8);
-    put_ranges(t, n, len, out, a)
-}
-
-// The clear list of an accepted recording whose n block rows and m link rows stand in the tables, from the output's start on. What
-// stands in the scratch table then is left free.
-pub fn put_clear_list(
-    file: &[u8],
-    blocks: &[u64],
-    n: usize,
-    links: &[u64],
-    m: usize,
-    scratch: &mut [u64],
-    out: &mut [u8],
-) -> Cleared
-    requires { ⌜ Printable (now file) n (now blocks) m (now links) ⌝ }
-    ensures { λ r. ⌜ ((y : Layout) → y .blocks ≡ held-rows n (now (blocks .entry)) → y .state .links ≡ held-links m (now (links .entry)) → Inv (now (file .entry)) (y .state) → y ≡ layout-of (now (file .entry)) (y .state) → ClearMet r (now (out .entry)) (now (out .exit)) (and-then (room (length (now (scratch .entry)) / pair-words) (length (spared-ranges (now (file .entry)) (y .state)))) (λ u. ok (clr-bytes (length (now (file .entry))) (clear-ranges (now (file .entry)) y))))) ⌝ }
-{
-    let lent = scratch.len() / PAIR_WORDS;
-    let taken = put_blocks(file, blocks, n, scratch);
-    let count = put_links(file, links, m, scratch, taken);
-    if lent < count {
-        return Cleared::Refused(MdfError::TableTooShort {
-            lent: lent as u64,
-            needed: count as u64,
-        });
-    }
-    sort_rows(scratch, PAIR_WORDS, count);
-    Cleared::Bytes(put_clr(scratch, count, file.len() as u64, out))
 }

@@ -38,6 +38,7 @@ fn say(answer: Answer, out: &[u8]) {
             links: _,
             gaps: _,
             bytes,
+            total: _,
         } => say_output(out, bytes),
         Answer::Refused(e) => say_refused(e),
     }

@@ -1,2 +1,3 @@
 -- Laws of the layout that stands in the tables.
 pub mod Laying
+pub mod Standing

@@ -15,7 +15,7 @@ use Rattle.mdf4.specs.Layout.{Layout}
 use Rattle.mdf4.specs.Clear.{le-bytes}
 use Rattle.mdf4.specs.Describe.{name-text}
 use Rattle.mdf4.specs.Tree.{Edge, render-tree-node}
-use Rattle.mdf4.specs.Answers.{layout-exit, to-text-exit, to-tree-exit, clear-list-exit}
+use Rattle.mdf4.specs.Answers.{layout-exit, to-text-exit, to-tree-exit, clear-list-exit, blank-exit, preview-exit, blank-recording}
 use Rattle.mdf4.proofs.Computed.{computed}
 use Rattle.mdf4.proofs.Recordings.{lent, counts, block, identification, header, L}
 use Rattle.mdf4.proofs.WorkedRows.{L-rows}
@@ -365,3 +365,104 @@ pub past-end-clear : clear-list-exit (lent 4 48 20 2 16 40) past-end .out
     ≡ ascii "CLR" ++ 1 ∷ 0 ∷ 0 ∷ 0 ∷ 0 ∷ 14 ∷ 1 ∷ replicate 6 0 ++ 1 ∷ replicate 7 0 ++ 232 ∷ replicate 7 0 ++ 240 ∷ replicate 7 0
 unfolding computed identification header past-end
 past-end-clear = refl
+
+-- Document 02, order 5: what the blanker leaves in the recording and in the tables
+unfoldable pub tail-of-4 : List ℕ
+tail-of-4 = L ++ 1 ∷ 2 ∷ 0 ∷ 4 ∷ []
+
+pub blank-tail : blank-recording (lent 2 24 12 2 4 0) tail-of-4 ≡ L ++ replicate 4 0
+unfolding computed identification header L tail-of-4
+blank-tail = refl
+
+pub blank-leaves : blank-exit (lent 2 24 12 2 4 0) tail-of-4
+    ≡ record { answer = ok (counts 2 2 6 1 0); visited = 0 ∷ 64 ∷ []; blocks = L-rows 0; links = replicate 12 0; gaps = 168 ∷ 172 ∷ []; scratch = replicate 4 0; out = [] }
+unfolding computed identification header L L-rows tail-of-4
+blank-leaves = refl
+
+-- each range is zeroed, from its first byte to its last
+pub blank-two : blank-recording (lent 3 36 12 4 10 0) empty-text
+    ≡ identification ++ header (replicate 40 0 ++ le-bytes 8 200) ++ replicate 32 0 ++ block (ascii "##TX") 0 0 [] ++ replicate 36 0
+unfolding computed identification header empty-text
+blank-two = refl
+
+-- a refused call leaves the recording as it was and all tables zero: 13 of the scratch table, and 16
+pub blank-untouched : blank-recording (lent 2 24 12 2 3 0) tail-of-4 ≡ tail-of-4
+unfolding computed identification header L tail-of-4
+blank-untouched = refl
+
+pub blank-refused : blank-exit (lent 2 24 12 2 3 0) tail-of-4
+    ≡ record { answer = err (refusal 13 0 1 2); visited = replicate 2 0; blocks = replicate 24 0; links = replicate 12 0; gaps = replicate 2 0; scratch = replicate 3 0; out = [] }
+unfolding computed identification header L tail-of-4
+blank-refused = refl
+
+pub blank-flags : blank-exit (lent 2 24 12 2 4 0) (flagged (1 ∷ 0 ∷ 2 ∷ 0 ∷ [])) .answer ≡ err (refusal 16 60 1 2)
+unfolding computed header flagged
+blank-flags = refl
+
+pub blank-flags-untouched : blank-recording (lent 2 24 12 2 4 0) (flagged (1 ∷ 0 ∷ 2 ∷ 0 ∷ [])) ≡ flagged (1 ∷ 0 ∷ 2 ∷ 0 ∷ [])
+unfolding computed header flagged
+blank-flags-untouched = refl
+
+-- order 1: the 32 bytes of the file history's extent stay, the 24 behind it go
+pub blank-history : blank-recording (lent 2 24 12 2 8 0) (history (ascii "##FH") 32) ≡ with-history (ascii "##FH" ++ replicate 4 7 ++ le-bytes 8 32 ++ replicate 16 7 ++ replicate 24 0)
+unfolding computed identification header with-history history
+blank-history = refl
+
+-- where nothing is clear, nothing changes and nothing is counted
+pub blank-nothing : blank-recording (lent 2 24 12 2 8 0) (history (ascii "##FH") 56) ≡ history (ascii "##FH") 56
+unfolding computed identification header with-history history
+blank-nothing = refl
+
+pub preview-nothing : preview-exit (lent 2 24 12 2 8 0) (history (ascii "##FH") 56) .answer ≡ ok (counts 2 2 6 1 0)
+unfolding computed identification header with-history history
+preview-nothing = refl
+
+-- what the preview counts: one range, with three bytes that are not 0
+pub preview-tail : preview-exit (lent 2 24 12 2 4 2) tail-of-4
+    ≡ record {
+      answer = ok (record { visited = 2; blocks = 2; links = 6; gaps = 1; bytes = 1; total = 3 });
+      visited = 0 ∷ 64 ∷ [];
+      blocks = L-rows 0;
+      links = replicate 12 0;
+      gaps = 168 ∷ 172 ∷ [];
+      scratch = replicate 4 0;
+      out = 3 ∷ 0 ∷ [];
+    }
+unfolding computed identification header L L-rows tail-of-4
+preview-tail = refl
+
+-- two ranges of 32 and 36 bytes, which two words take
+pub preview-two : preview-exit (lent 3 36 12 4 10 2) empty-text .out ≡ 32 ∷ 36 ∷ []
+unfolding computed identification header empty-text
+preview-two = refl
+
+pub preview-total : preview-exit (lent 3 36 12 4 10 2) empty-text .answer ≡ ok (record { visited = 3; blocks = 3; links = 6; gaps = 2; bytes = 2; total = 68 })
+unfolding computed identification header empty-text
+preview-total = refl
+
+-- one word too few is 13, after that of the scratch table, which comes after 16
+pub preview-short : preview-exit (lent 3 36 12 4 10 1) empty-text .answer ≡ err (refusal 13 0 1 2)
+unfolding computed identification header empty-text
+preview-short = refl
+
+pub preview-scratch : preview-exit (lent 3 36 12 4 9 1) empty-text .answer ≡ err (refusal 13 0 4 5)
+unfolding computed identification header empty-text
+preview-scratch = refl
+
+pub preview-flags : preview-exit (lent 2 24 12 0 0 0) (flagged (1 ∷ 0 ∷ 2 ∷ 0 ∷ [])) .answer ≡ err (refusal 16 60 1 2)
+unfolding computed header flagged
+preview-flags = refl
+
+-- after the blanker nothing is left to count
+pub preview-blanked : preview-exit (lent 2 24 12 2 4 2) (blank-recording (lent 2 24 12 2 4 0) tail-of-4) .out ≡ 0 ∷ 0 ∷ []
+unfolding computed identification header L tail-of-4
+preview-blanked = refl
+
+-- the byte behind L is clear, and so not read: two recordings that differ there are alike, and only the preview tells them apart
+pub preview-of-0 : preview-exit (lent 2 24 12 2 4 1) (L ++ 0 ∷ []) .out ≡ 0 ∷ []
+unfolding computed identification header L
+preview-of-0 = refl
+
+pub preview-of-1 : preview-exit (lent 2 24 12 2 4 1) (L ++ 1 ∷ []) .out ≡ 1 ∷ []
+unfolding computed identification header L
+preview-of-1 = refl

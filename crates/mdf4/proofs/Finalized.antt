@@ -1,5 +1,5 @@
--- Document 02, order 4, of the recording's own bytes: what the definition asks of the two words of unfinalized flags, what a clear list
--- answers of it, and that no other entry does.
+-- Document 02, order 4, of the recording's own bytes: what the definition asks of the two words of unfinalized flags, what clear list,
+-- blanker and preview answer of it, and that no other entry does.
 use mathlib.Core.Path.{_≡_, refl, sym, ap, _∙_}
 use mathlib.Core.Bool.{Bool, true, false, _&&_}
 use mathlib.Core.List.{List, []}
@@ -11,8 +11,8 @@ use lib.ListN.{length, getD}
 use borrow.Author.Tests.{eqb-true, eqb-false}
 use Rattle.mdf4.specs.Bytes.{bytes, little, num}
 use Rattle.mdf4.specs.Act.{Refusal, refusal, Out, ok, err, and-then, check, State}
-use Rattle.mdf4.specs.Layout.{walk-state, layout-if, layout, finalized}
-use Rattle.mdf4.specs.Answers.{Lent, Counts, Made, limits, pair-words, exit, laid, laid-finalized, layout-made, to-text-made, to-tree-made, clear-list-made, layout-exit, to-text-exit, to-tree-exit, clear-list-exit}
+use Rattle.mdf4.specs.Layout.{Layout, walk-state, layout-if, layout, finalized}
+use Rattle.mdf4.specs.Answers.{Lent, Counts, Made, limits, pair-words, exit, laid, laid-finalized, clearable, layout-made, to-text-made, to-tree-made, clear-list-made, blank-made, preview-made, layout-exit, to-text-exit, to-tree-exit, clear-list-exit, blank-exit, preview-exit}
 use Rattle.mdf4.specs.Demand3.{Unfinalized, Finalizing, Unasked}
 use Rattle.mdf4.proofs.Results.{never}
 use Rattle.mdf4.proofs.Fields.{num-suc}
@@ -28,9 +28,6 @@ word-is r a h =
     let f : num r (suc a) 1 ≡ getD r (suc a) 0 + 256 * num r (suc (suc a)) 0 = num-suc r (suc a) 0 (omega arith) in
     let g : num r (suc (suc a)) 0 ≡ 0 = refl in
     omega (arith, e, f, g)
-
-err-same : {x z : Refusal} → _≡_ {A = Out Counts} (err x) (err z) → x ≡ z
-err-same e = cc
 
 module _ (r : List ℕ) (whole : 64 ≤ length r) where
   standard : num r 60 2 ≡ getD r 60 0 + 256 * getD r 61 0
@@ -95,35 +92,50 @@ module _ (n : Lent) (r : List ℕ) where
   pub whole : (s : State) → walk-state (limits n) r ≡ ok s → 64 ≤ length r
   whole s e = walk-id-whole (limits n) r s (state-walked (limits n) r s e)
 
-  walk-first : (z : Refusal) → walk-state (limits n) r ≡ err z → clear-list-exit n r .answer ≡ err z
-  unfolding clear-list-exit clear-list-made laid-finalized layout-if and-then exit
-  walk-first z e = rw e
+  -- clear list, blanker and preview: `f` is what each does behind the tests that they share, with numbers up to 15
+  module _ (f : Layout → Out Made) (l : (y : Layout) → Low (f y)) where
+    walk-first : (z : Refusal) → walk-state (limits n) r ≡ err z → exit n (and-then (clearable n r) f) .answer ≡ err z
+    unfolding clearable laid-finalized layout-if and-then exit
+    walk-first z e = rw e
 
-  refused : (s : State) → walk-state (limits n) r ≡ ok s → Unfinalized r
-      → clear-list-exit n r .answer ≡ err (refusal 16 60 (getD r 60 0 + 256 * getD r 61 0) (getD r 62 0 + 256 * getD r 63 0))
-  unfolding clear-list-exit clear-list-made laid-finalized layout-if and-then exit
-  refused s e u = rw (e, unfinalized-refused r (whole s e) u, standard r (whole s e), custom r (whole s e))
+    refused : (s : State) → walk-state (limits n) r ≡ ok s → Unfinalized r
+        → exit n (and-then (clearable n r) f) .answer ≡ err (refusal 16 60 (getD r 60 0 + 256 * getD r 61 0) (getD r 62 0 + 256 * getD r 63 0))
+    unfolding clearable laid-finalized layout-if and-then exit
+    refused s e u = rw (e, unfinalized-refused r (whole s e) u, standard r (whole s e), custom r (whole s e))
 
-  -- all but the test refuses with numbers up to 15
-  low : finalized r ≡ ok tt → Low (clear-list-made n r)
-  unfolding clear-list-made laid-finalized
-  low h = low-and-then _ _ (low-layout-if (finalized r) (rw h (low-ok tt)) (limits n) (n .gaps / pair-words) r) (λ y. low-and-then _ _ (low-room _ _) (λ u. low-fitted _ y [] _))
+    -- all but the test refuses with numbers up to 15
+    low : finalized r ≡ ok tt → Low (and-then (clearable n r) f)
+    unfolding clearable laid-finalized
+    low h = low-and-then _ _ (low-and-then _ _ (low-layout-if (finalized r) (rw h (low-ok tt)) (limits n) (n .gaps / pair-words) r) (λ y. low-and-then _ _ (low-room _ _) (λ u. low-ok y))) l
 
-  only : (z : Refusal) → clear-list-exit n r .answer ≡ err z → z .number ≡ 16 → Unfinalized r
-  only z h k = go (walk-state (limits n) r) refl
-    where
-      go : (o : Out State) → walk-state (limits n) r ≡ o → Unfinalized r
-      go (err x) e =
-          let q : x ≡ z = err-same (sym (walk-first x e) ∙ h) in
-          absurd (omega (arith, k, ap (λ (w : Refusal). w .number) q, low-walk-state (limits n) r .number x e))
-      go (ok s) e = behind (asked r (whole s e))
-        where
-          behind : Asked r (whole s e) (finalized r) → Unfinalized r
-          behind (inl a) = absurd (omega (arith, k, low-exit n (clear-list-made n r) (low (a .0)) z (unfold clear-list-exit in h)))
-          behind (inr a) = a .1
+    only : (z : Refusal) → exit n (and-then (clearable n r) f) .answer ≡ err z → z .number ≡ 16 → Unfinalized r
+    only z h k = go (walk-state (limits n) r) refl
+      where
+        go : (o : Out State) → walk-state (limits n) r ≡ o → Unfinalized r
+        go (err x) e =
+            let p : _≡_ {A = Out Counts} (err x) (err z) = sym (walk-first x e) ∙ h in
+            let q : x ≡ z = cc in
+            absurd (omega (arith, k, ap (λ (w : Refusal). w .number) q, low-walk-state (limits n) r .number x e))
+        go (ok s) e = behind (asked r (whole s e))
+          where
+            behind : Asked r (whole s e) (finalized r) → Unfinalized r
+            behind (inl a) = absurd (omega (arith, k, low-exit n (and-then (clearable n r) f) (low (a .0)) z h))
+            behind (inr a) = a .1
+
+    finalizing-by : Finalizing n r (exit n (and-then (clearable n r) f) .answer)
+    finalizing-by = record { walk-first = walk-first; refused = refused; only = only }
 
   pub finalizing : Finalizing n r (clear-list-exit n r .answer)
-  finalizing = record { walk-first = walk-first; refused = refused; only = only }
+  unfolding clear-list-exit clear-list-made
+  finalizing = finalizing-by _ (λ y. low-fitted _ y [] _)
+
+  pub blank-finalizing : Finalizing n r (blank-exit n r .answer)
+  unfolding blank-exit blank-made
+  blank-finalizing = finalizing-by _ (λ y. low-ok _)
+
+  pub preview-finalizing : Finalizing n r (preview-exit n r .answer)
+  unfolding preview-exit preview-made
+  preview-finalizing = finalizing-by _ (λ y. low-and-then _ _ (low-room _ _) (λ u. low-ok _))
 
 -- the entries that do not look
 low-laid : (n : Lent) (r : List ℕ) → Low (laid n r)

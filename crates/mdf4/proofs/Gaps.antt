@@ -7,10 +7,10 @@ use native.Mathlib.Omega.{arith}
 use mathlib.Core.Logic.{_⊎_, inl, inr}
 use lib.Dec.{leb, ltb, eqb}
 use borrow.Author.Tests.{leb-true, ltb-true, ltb-false, lt-ltb, le-ltb, le-leb, lt-leb, ne-eqb, eq-eqb}
-use Rattle.mdf4.specs.Bytes.{Range, within, inside, bit, count}
+use Rattle.mdf4.specs.Bytes.{Range, within, inside, bit, count, tally}
 use Rattle.mdf4.specs.Act.{Row, elem}
 use Rattle.mdf4.specs.Layout.{extent, gap, compute-gaps}
-use Rattle.mdf4.specs.Demand3.{tally, sizes, Gap, offsets}
+use Rattle.mdf4.specs.Demand3.{sizes, Gap, offsets}
 use Rattle.mdf4.proofs.Bytes.{or-left, or-right}
 use Rattle.mdf4.proofs.Lists.{All, all-append, all-map}
 use Rattle.mdf4.proofs.Good.{Tidy}
@@ -144,17 +144,17 @@ inside-count i (p ∷ ps) b e = go (within i p) b e (λ (h : count i ps ≡ bit 
 
 -- Gap sizes add up to the number of bytes that no extent holds
 
-tally-ext : (f g : ℕ → ℕ) (n : ℕ) → ((i : ℕ) → i < n → f i ≡ g i) → tally f n ≡ tally g n
+pub tally-ext : (f g : ℕ → ℕ) (n : ℕ) → ((i : ℕ) → i < n → f i ≡ g i) → tally f n ≡ tally g n
 unfolding tally
 tally-ext f g zero h = refl
 tally-ext f g (suc n) h = rw (tally-ext f g n (λ i l. h i (omega arith)), h n (omega arith))
 
-tally-add : (f g : ℕ → ℕ) (n : ℕ) → tally (λ i. f i + g i) n ≡ tally f n + tally g n
+pub tally-add : (f g : ℕ → ℕ) (n : ℕ) → tally (λ i. f i + g i) n ≡ tally f n + tally g n
 unfolding tally
 tally-add f g zero = refl
 tally-add f g (suc n) = rw (tally-add f g n) (omega arith)
 
-tally-none : (n : ℕ) → tally (λ i. 0) n ≡ 0
+pub tally-none : (n : ℕ) → tally (λ i. 0) n ≡ 0
 unfolding tally
 tally-none zero = refl
 tally-none (suc n) = omega (arith, tally-none n)

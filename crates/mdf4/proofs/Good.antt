@@ -1,22 +1,22 @@
--- What every accepted step of the walk does: it loses no read byte, keeps the state in order, and answers the same on another
--- recording that agrees on what it has read. The property goes through the combinators, so the walk has it by its shape.
+-- What every accepted step of the walk does: it loses no read byte, keeps the state in order, and answers with any limits the same
+-- on another recording that agrees on what it has read. The property goes through the combinators, so the walk has it by its shape.
 use mathlib.Core.Path.{_≡_, refl, sym, ap, _∙_}
 use mathlib.Core.Bool.{cond, Bool, true, false, _||_, or-assoc, or-false}
 use mathlib.Core.List.{List, [], _∷_, _++_, map}
 use Prim.Native.Nat.{ℕ, zero, suc, _+_, _≤_, _<_}
 use native.Mathlib.Omega.{arith}
-use lib.Dec.{eqb}
+use lib.Dec.{ltb, eqb}
 use lib.ListN.{length, getD, take, drop, length-append, length-drop}
 use lib.Seq.{drop-append-le, take-append-le, drop-append-seam, take-length}
 use borrow.Author.Tests.{ltb-true, eqb-true, eqb-false, ne-eqb, eq-eqb}
 use Rattle.mdf4.specs.Bytes.{bytes, within, inside}
-use Rattle.mdf4.specs.Act.{Refusal, Out, ok, err, and-then, Kind, Row, Link, State, Act, choose, pure, stop, _>>=_, _>>_, sized, elem, marked, visit, once, seen, chain, each, raise}
+use Rattle.mdf4.specs.Act.{Refusal, Result, Stop, stopped, Out, ok, err, and-then, check, Kind, Row, Link, State, Limits, Act, choose, pure, stop, _>>=_, _>>_, sized, elem, marked, visit, once, seen, chain, each, raise}
 use Rattle.mdf4.specs.Kinds.{RecordLayout, read-len, read-block, make-link, name-ok, shape}
 use Rattle.mdf4.specs.Walk.{row-of, push, after-reading, list-block, enter}
 use Rattle.mdf4.specs.Reads.{row-ranges, ranges-at, links-at, read-ranges}
 use Rattle.mdf4.proofs.Bytes.{or-left, or-right, or-none}
-use Rattle.mdf4.proofs.Results.{and-then-ok, check-ok, ok-both, never}
-use Rattle.mdf4.proofs.Reading.{row-links, row-links-snoc, Reads, Agree, within-in, old-reads, row-read, link-read, read-is, read-inside, read-whole, after-is, read-same, head-same, links-same, name-ok-same}
+use Rattle.mdf4.proofs.Results.{and-then-ok, check-ok, ok-both, never, Both, on, off, both-then, both-on}
+use Rattle.mdf4.proofs.Reading.{row-links, row-links-snoc, Reads, Agree, within-in, old-reads, row-read, link-read, read-is, read-inside, read-whole, after-is, lending, after-lending, read-same, head-same, links-same, name-ok-same}
 use Rattle.mdf4.proofs.Lists.{All, all-append}
 
 -- lists of offsets
@@ -115,7 +115,7 @@ pub record Went {A : Type 0} (P : State → Type 0) (m : Act A) (r : List ℕ) (
   pub fits : length (s .visited) ≤ s .lent .visited → length (s' .visited) ≤ s .lent .visited
   pub kept : s' .lent ≡ s .lent
   pub listed : (x : ℕ) → elem x (offs (s .rows)) ≡ true → elem x (offs (s' .rows)) ≡ true
-  pub again : (r' : List ℕ) → Agree r r' s' → m r' s ≡ ok (x, s')
+  pub other : (r' : List ℕ) (lim : Limits) → Agree r r' s' → Both (m r (lending lim s)) (m r' (lending lim s)) (x, lending lim s')
 
 pub record Good {A : Type 0} (P : State → Type 0) (m : Act A) : Type 0 where
   pub went : (r : List ℕ) (s : State) (x : A) (s' : State) → m r s ≡ ok (x, s') → Went P m r s x s'
@@ -123,12 +123,20 @@ pub record Good {A : Type 0} (P : State → Type 0) (m : Act A) : Type 0 where
 pub earlier : {A : Type 0} {m : Act A} {P : State → Type 0} {r r' : List ℕ} {s s' : State} {x : A} → Went P m r s x s' → Agree r r' s' → Agree r r' s
 earlier w g = record { size = g .size; at = λ i l h. g .at i l (w .grows i h) }
 
+-- the same limits again
+pub again : {A : Type 0} {P : State → Type 0} (m : Act A) (r : List ℕ) (s : State) (x : A) (s' : State) → Went P m r s x s' → m r s ≡ ok (x, s')
+    → (r' : List ℕ) → Agree r r' s' → m r' s ≡ ok (x, s')
+unfolding lending
+again m r s x s' w e r' c =
+    let z : lending (s .lent) s' ≡ s' = rw (← w .kept) in
+    both-on (w .other r' (s .lent) c) (x, s') e .1 ∙ ap (λ t. ok (x, t)) z
+
 pub good-pure : {A : Type 0} (a : A) → Good Any (pure a)
 unfolding pure
 good-pure a = record {
   went = λ r s x s' e.
       let q = ok-both a x s s' e in
-      record { grows = λ i h. rw (q .1) at h; keeps = λ p i. rw (q .1) at i; longer = rw (q .1) (omega arith); fits = λ h. rw (← q .1) h; kept = rw (← q .1); listed = λ x h. rw (← q .1) h; again = λ r' g. e };
+      record { grows = λ i h. rw (q .1) at h; keeps = λ p i. rw (q .1) at i; longer = rw (q .1) (omega arith); fits = λ h. rw (← q .1) h; kept = rw (← q .1); listed = λ x h. rw (← q .1) h; other = λ r' lim g. let p : _≡_ {A = Result Stop (_ × State)} (ok (a, lending lim s)) (ok (x, lending lim s')) = (λ i. ok (q .0 i, lending lim (q .1 i))) in on p p };
 }
 
 pub good-stop : {A : Type 0} (P : State → Type 0) (k : Kind) (a : ℕ) (e : Refusal) → Good {A = A} P (stop k a e)
@@ -149,7 +157,7 @@ good-bind P m f g k = record {
         fits = λ h. rw (w .kept) at (v .fits (rw (w .kept) (w .fits h)));
         kept = v .kept ∙ w .kept;
         listed = λ x h. v .listed x (w .listed x h);
-        again = λ r' a. rw (w .again r' (earlier v a)) (v .again r' a);
+        other = λ r' lim a. both-then _ _ (w .other r' lim (earlier v a)) (v .other r' lim a);
       };
 }
 
@@ -167,21 +175,21 @@ unfolding sized
 good-sized P f g = record {
   went = λ r s x s' e.
       let w = g (length r) .went r s x s' e in
-      record { grows = w .grows; keeps = w .keeps; longer = w .longer; fits = w .fits; kept = w .kept; listed = w .listed; again = λ r' a. rw (sym (a .size)) (w .again r' a) };
+      record { grows = w .grows; keeps = w .keeps; longer = w .longer; fits = w .fits; kept = w .kept; listed = w .listed; other = λ r' lim a. rw (sym (a .size)) (w .other r' lim a) };
 }
 
 pub good-seen : {A : Type 0} (P : State → Type 0) (a : ℕ) (f : Bool → Act A) → ((b : Bool) → Good P (f b)) → Good P (seen a f)
-unfolding seen
+unfolding seen lending
 good-seen P a f g = record {
   went = λ r s x s' e.
       let w = g (elem a (s .visited)) .went r s x s' e in
-      record { grows = w .grows; keeps = w .keeps; longer = w .longer; fits = w .fits; kept = w .kept; listed = w .listed; again = λ r' c. w .again r' c };
+      record { grows = w .grows; keeps = w .keeps; longer = w .longer; fits = w .fits; kept = w .kept; listed = w .listed; other = w .other };
 }
 
 pub good-weaken : {A : Type 0} (P : State → Type 0) (m : Act A) → Good Any m → Good P m
 good-weaken P m g = record {
   went = λ r s x s' e.
-      let w = g .went r s x s' e in record { grows = w .grows; keeps = λ p i. w .keeps tt i; longer = w .longer; fits = w .fits; kept = w .kept; listed = w .listed; again = w .again };
+      let w = g .went r s x s' e in record { grows = w .grows; keeps = λ p i. w .keeps tt i; longer = w .longer; fits = w .fits; kept = w .kept; listed = w .listed; other = w .other };
 }
 
 pub good-chain : {B : Type 0} (n : ℕ) (f : ℕ → B → Act (ℕ × B)) → ((a : ℕ) (b : B) → Good Any (f a b)) → (a : ℕ) (b : B) → Good Any (chain n f a b)
@@ -230,27 +238,32 @@ pub marked-length : (a : ℕ) (s : State) → length (marked a s .visited) ≡ s
 unfolding marked
 marked-length a s = length-append (s .visited) (a ∷ []) ∙ omega arith
 
-visit-room : (k : Kind) (a : ℕ) (r : List ℕ) (s : State) (p : Unit {0} × State) → visit k a r s ≡ ok p → length (s .visited) < s .lent .visited
+pub visit-room : (k : Kind) (a : ℕ) (r : List ℕ) (s : State) (p : Unit {0} × State) → visit k a r s ≡ ok p → length (s .visited) < s .lent .visited
 unfolding visit
 visit-room k a r s p e = ltb-true _ _ (check-ok _ _ _ _ e .0)
 
-same-visit : (k : Kind) (a : ℕ) (r r' : List ℕ) (s : State) → visit k a r' s ≡ visit k a r s
-unfolding visit
-same-visit k a r r' s = refl
+visit-both : (k : Kind) (a : ℕ) (r r' : List ℕ) (lim : Limits) (s : State)
+    → Both (visit k a r (lending lim s)) (visit k a r' (lending lim s)) (tt {0}, lending lim (marked a s))
+unfolding visit and-then check lending marked
+visit-both k a r r' lim s = go (ltb (length (s .visited)) (lim .visited)) _
+  where
+    go : (b : Bool) (z : Stop) {p : Unit {0} × State} → Both (and-then (check b z) (λ u. ok p)) (and-then (check b z) (λ u. ok p)) p
+    go true z = on refl refl
+    go false z = off z refl refl
 
-lent-is : (a : ℕ) (s t : State) → t ≡ marked a s → t .lent ≡ s .lent
+pub lent-is : (a : ℕ) (s t : State) → t ≡ marked a s → t .lent ≡ s .lent
 unfolding marked
 lent-is a s t v = ap (λ (u : State). u .lent) v
 
 once-at : {A : Type 0} (k : Kind) (a : ℕ) (x : A) (m : Act A) → Good (Ready a) m → (r : List ℕ) (s : State) (y : A) (s' : State)
     → once k a x m r s ≡ ok (y, s') → Went Any (once k a x m) r s y s'
-unfolding once _>>_ and-then choose
+unfolding once _>>_ and-then choose lending
 once-at {A = A} k a x m g r s y s' e = go (elem a (s .visited)) refl
   where
     go : (b : Bool) → elem a (s .visited) ≡ b → Went Any (once k a x m) r s y s'
     go true q =
         let w = good-pure x .went r s y s' (rw q at e) in
-        record { grows = w .grows; keeps = w .keeps; longer = w .longer; fits = w .fits; kept = w .kept; listed = w .listed; again = λ r' c. rw q (w .again r' c) }
+        record { grows = w .grows; keeps = w .keeps; longer = w .longer; fits = w .fits; kept = w .kept; listed = w .listed; other = λ r' lim c. rw q (w .other r' lim c) }
     go false q =
         let p = and-then-ok (visit k a r s) (λ p. m r p.1) (y, s') (rw q at e) in
         let v = visit-is k a r s (p .0) (p .1) in
@@ -262,7 +275,7 @@ once-at {A = A} k a x m g r s y s' e = go (elem a (s .visited)) refl
           fits = λ h. rw (lent-is a s (p .0 .1) v) at (w .fits (rw (lent-is a s (p .0 .1) v) (omega (arith, visit-room k a r s (p .0) (p .1), marked-length a s, ap (λ (t : State). length (t .visited)) v))));
           kept = w .kept ∙ lent-is a s (p .0 .1) v;
           listed = λ x h. w .listed x (rw v (unfold marked in h));
-          again = λ r' c. rw (q, same-visit k a r r' s ∙ p .1) (w .again r' c);
+          other = λ r' lim c. rw q (both-then _ _ (visit-both k a r r' lim s) (rw v at (w .other r' lim c)));
         }
 
 pub good-once : {A : Type 0} (k : Kind) (a : ℕ) (x : A) (m : Act A) → Good (Ready a) m → Good Any (once k a x m)
@@ -292,6 +305,11 @@ raise-ok : {A : Type 0} (k : Kind) (a : ℕ) (s : State) (m : Out A) (x : A) →
 unfolding raise
 raise-ok k a s (ok y) x e = cc
 raise-ok k a s (err y) x e = never (sym e)
+
+both-raise : {A : Type 0} (k : Kind) (a : ℕ) (s : State) {o o' : Out A} {x : A} → Both o o' x → Both (raise k a s o) (raise k a s o') x
+unfolding raise
+both-raise k a s (on p q) = on (rw p) (rw q)
+both-raise k a s (off z p q) = off (stopped z s k a) (rw p) (rw q)
 
 -- entering a block
 module _ (k : Kind) (a : ℕ) (h : RecordLayout) (r : List ℕ) (s : State) where
@@ -341,11 +359,12 @@ module _ (k : Kind) (a : ℕ) (h : RecordLayout) (r : List ℕ) (s : State) wher
     unfolding pushed
     its-state = after-is k a h s block-bytes own-links (name-ok k r own-links) x s' its-after .1
 
-    enter-again : (r' : List ℕ) → Agree r r' s' → enter k a h r' s ≡ ok (x, s')
-    unfolding enter list-block and-then raise
-    enter-again r' c =
+    enter-other : (r' : List ℕ) (lim : Limits) → Agree r r' s' → Both (enter k a h r (lending lim s)) (enter k a h r' (lending lim s)) (x, lending lim s')
+    unfolding enter list-block and-then own-links
+    enter-other r' lim c =
         let g : Agree r r' (pushed k a h s block-bytes own-links) = rw its-state at c in
-        rw (← own-again r' g, its-own, ← links-again r' g, ← named-again r' g, its-after)
+        rw (← own-again r' g, its-own, ← links-again r' g, ← named-again r' g)
+        (both-raise k a (lending lim s) (after-lending lim k a h s block-bytes own-links (name-ok k r own-links) x s' its-after))
 
     good-enter-at : Went (Ready a) (enter k a h) r s x s'
     good-enter-at = record {
@@ -355,7 +374,7 @@ module _ (k : Kind) (a : ℕ) (h : RecordLayout) (r : List ℕ) (s : State) wher
       fits = λ q. rw its-state (unfold pushed push in q);
       kept = rw its-state (unfold pushed push in refl);
       listed = λ x q. rw its-state (unfold pushed push in (rw (offs-snoc, elem-snoc) (or-left _ _ q)));
-      again = enter-again;
+      other = enter-other;
     }
 
 -- an entered block is listed

@@ -7,14 +7,14 @@ use native.Mathlib.Omega.{arith}
 use lib.Dec.{ltb, eqb}
 use lib.ListN.{length, getD}
 use borrow.Author.Tests.{ltb-true, ltb-false, eqb-true, lt-ltb, le-ltb, le-leb}
-use Rattle.mdf4.specs.Bytes.{num, Range, inside, bit, count}
+use Rattle.mdf4.specs.Bytes.{num, Range, inside, bit, count, tally}
 use Rattle.mdf4.specs.Act.{Out, ok, and-then, Row, State, Limits, elem, reason}
 use Rattle.mdf4.specs.Kinds.{null}
 use Rattle.mdf4.specs.Walk.{walk, start}
 use Rattle.mdf4.specs.Reads.{read-ranges, kept-ranges, spared-ranges}
 use Rattle.mdf4.specs.Layout.{sort, extent, Layout, layout-of, walk-state, gaps-fitted, layout-if, layout}
 use Rattle.mdf4.specs.Clear.{is-clear, none, close, clear-ranges}
-use Rattle.mdf4.specs.Demand3.{sizes, tally, Apart, Gap, Block, offsets}
+use Rattle.mdf4.specs.Demand3.{sizes, Apart, Gap, Block, offsets}
 use Rattle.mdf4.proofs.Results.{and-then-ok, check-ok, reason-ok}
 use Rattle.mdf4.proofs.Walk.{walk-inv, walk-id}
 use Rattle.mdf4.proofs.Bytes.{not-or, inside-append}
@@ -139,6 +139,16 @@ module _ (lim : Limits) (lent : ℕ) (r : List ℕ) (y : Layout) (e : layout lim
   pub clear-neither : (i : ℕ) → inside i (clear-ranges r y) ≡ (inside i (y .gaps) && (not (inside i (read-ranges r (y .state))) && not (inside i (kept-ranges r (y .state)))))
   unfolding spared-ranges
   clear-neither i = clear-exactly i ∙ rw (inside-append, not-or)
+
+  -- a clear byte lies in the recording
+  pub clear-below : (i : ℕ) → inside i (clear-ranges r y) ≡ true → i < length r
+  clear-below i h = go (ltb i (length r)) refl
+    where
+      go : (t : Bool) → ltb i (length r) ≡ t → i < length r
+      go true q = ltb-true i (length r) q
+      go false q =
+          let z : inside i (clear-ranges r y) ≡ false = clear-exactly i ∙ rw (no-gap-behind i (ltb-false i (length r) q)) in
+          let w : _≡_ {A = ℕ} 0 1 = cc in absurd (omega arith)
 
   -- document 02, order 1: the 24 bytes of a block that a link leads to are read, and neither they nor those of its extent are clear
   module _ (j : ℕ) (l : j < length (y .state .links)) (b : Block r (getD (y .state .links) j null .target)) where

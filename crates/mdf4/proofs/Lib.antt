@@ -19,7 +19,9 @@ pub mod ShortNames
 pub mod Tree
 pub mod TreeCode
 pub mod Demand3
-pub mod Blank
+pub mod Lending
+pub mod Zeroed
+pub mod Blanked
 pub mod Computed
 pub mod Recordings
 pub mod WorkedRows

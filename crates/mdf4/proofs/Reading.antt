@@ -2,18 +2,18 @@
 use mathlib.Core.Path.{_≡_, refl, sym}
 use mathlib.Core.Bool.{cond, Bool, true, false, not, _||_, _&&_, or-true}
 use mathlib.Core.List.{List, [], _∷_, _++_, map, append-assoc, append-nil}
-use Prim.Native.Nat.{ℕ, _+_, _-_, _≤_, _<_, min, max}
+use Prim.Native.Nat.{ℕ, _+_, _-_, _≤_, _<_, _^_, min, max}
 use native.Mathlib.Omega.{arith}
-use lib.Dec.{leb, eqb}
+use lib.Dec.{leb, ltb, eqb}
 use lib.ListN.{length, getD}
 use borrow.Author.Tests.{leb-true, lt-ltb, le-leb, ne-eqb}
 use Rattle.mdf4.specs.Bytes.{bytes, num, Range, within, inside, concat-map}
-use Rattle.mdf4.specs.Act.{Out, ok, Kind, ID, HD, DG, CG, CN, SI, TX, MD, DT, SD, DL, UT, UD, Row, Link, State}
+use Rattle.mdf4.specs.Act.{Refusal, refusal, Out, ok, and-then, check, Kind, ID, HD, DG, CG, CN, SI, TX, MD, DT, SD, DL, UT, UD, Row, Link, State, Limits}
 use Rattle.mdf4.specs.Kinds.{RecordLayout, read-len, read-block, read-of, make-link, name-link, name-ok, name-check, name-is-text, block-len, name-head, name-len, is, shape, data-at, rest}
-use Rattle.mdf4.specs.Walk.{row-of, push, after-reading}
+use Rattle.mdf4.specs.Walk.{row-of, index-of, push, after-reading, content-ok, targets-ok}
 use Rattle.mdf4.specs.Reads.{leads-to-block, link-ranges, link-extent, named-ranges, name-ranges, links-at, ranges-at, row-ranges, read-ranges, kept-ranges, spared-ranges}
 use Rattle.mdf4.proofs.Bytes.{inside-append, or-left, or-right, bytes-agree, concat-map-inside, concat-map-one}
-use Rattle.mdf4.proofs.Results.{and-then-ok, check-ok, ok-both}
+use Rattle.mdf4.proofs.Results.{and-then-ok, check-ok, ok-both, Both, on, off}
 
 -- the links of all rows, in the rows' order
 unfoldable pub row-links : List ℕ → List Row → List Link
@@ -103,6 +103,38 @@ module _ (k : Kind) (a : ℕ) (h : RecordLayout) (s : State) (o : List ℕ) (ls 
       let e5 = check-ok _ _ _ _ e4 .1 in
       let e6 = check-ok _ _ _ _ e5 .1 in
       (ok-both x (o, ls) s' _ (sym e6))
+
+-- the state with other limits
+unfoldable pub lending : Limits → State → State
+lending lim s = record {
+  visited = s .visited;
+  rows = s .rows;
+  links = s .links;
+  dg-counter = s .dg-counter;
+  cg-counter = s .cg-counter;
+  cn-counter = s .cn-counter;
+  lent = lim;
+}
+
+-- an accepted block is, with other limits, accepted with the same row or refused for them
+pub after-lending : (lim : Limits) (k : Kind) (a : ℕ) (h : RecordLayout) (s : State) (o : List ℕ) (ls : List Link) (nm : Out (Unit {0})) (x : List ℕ × List Link) (s' : State)
+    → after-reading k a h s o ls nm ≡ ok (x, s')
+    → Both (after-reading k a h (lending lim s) o ls nm) (after-reading k a h (lending lim s) o ls nm) (x, lending lim s')
+unfolding after-reading and-then check lending push row-of index-of
+after-lending lim k a h s o ls nm x s' e =
+    let e1 = and-then-ok (content-ok k o) _ (x, s') e in
+    let e2 = and-then-ok nm _ (x, s') (e1 .2) in
+    let e3 = and-then-ok (targets-ok (shape k .targets o)) _ (x, s') (e2 .2) in
+    let e4 = check-ok (ltb (a + shape k .size o) (2 ^ 64)) (refusal 7 a a (shape k .size o)) _ (x, s') (e3 .2) in
+    let q = after-is k a h s o ls nm x s' e in
+    let p : _≡_ {A = Out ((List ℕ × List Link) × State)} (ok (x, lending lim s')) (ok ((o, ls), lending lim (push k (row-of k a h s o ls) ls s))) = (λ i. ok (q .0 i, lending lim (q .1 i))) in
+    rw (e1 .1, e2 .1, e3 .1, e4 .0) (go (ltb (length (s .rows)) (lim .blocks)) (leb (length (s .links) + length ls) (lim .links)) _ _ (sym p))
+  where
+    go : (b c : Bool) (y z : Refusal) {p p' : (List ℕ × List Link) × State} → _≡_ {A = Out ((List ℕ × List Link) × State)} (ok p) (ok p')
+        → Both (and-then (check b y) (λ u. and-then (check c z) (λ u. ok p))) (and-then (check b y) (λ u. and-then (check c z) (λ u. ok p))) p'
+    go true true y z e = on e e
+    go true false y z e = off z refl refl
+    go false c y z e = off y refl refl
 
 -- Agreement on the bytes that each part reads
 

@@ -12,7 +12,7 @@ lent v b l g s o = record { visited = v; blocks = b; links = l; gaps = g; scratc
 
 -- rows of the visited, block, link and gap tables, bytes of the output
 abbrev pub counts : ℕ → ℕ → ℕ → ℕ → ℕ → Counts
-counts v b l g o = record { visited = v; blocks = b; links = l; gaps = g; bytes = o }
+counts v b l g o = record { visited = v; blocks = b; links = l; gaps = g; bytes = o; total = 0 }
 
 -- a block: mark, block_len, links_nr, and what stands behind the header
 abbrev pub block : List ℕ → ℕ → ℕ → List ℕ → List ℕ

@@ -181,7 +181,7 @@ keep-drops x j (q ∷ qs) l e = go (ltb x (q .0)) refl e (keep-length x qs) (λ 
     go true a b c d = omega (arith, d (rw (lt-leb (q .0) j (omega (arith, ltb-true x (q .0) a))) at b))
     go false a b c d = omega arith
 
-apart-below : (lo j : ℕ) (ps : List Range) → Apart lo ps → j < lo → inside j ps ≡ false
+pub apart-below : (lo j : ℕ) (ps : List Range) → Apart lo ps → j < lo → inside j ps ≡ false
 unfolding inside within
 apart-below lo j [] a l = refl
 apart-below lo j (p ∷ ps) a l = rw (lt-leb (p .0) j (omega arith)) (apart-below (suc (p .1)) j ps (a .2) (omega arith))

@@ -1,7 +1,7 @@
 -- A channel's name with a block_len under 24 (document 02, order 2), in every recording: it is not refused, 24 bytes of it are read,
 -- and it is empty.
 use mathlib.Core.Path.{_≡_, refl}
-use mathlib.Core.Bool.{Bool, true, false, cond, _&&_, _||_}
+use mathlib.Core.Bool.{Bool, true, false, cond, _||_}
 use mathlib.Core.List.{List, [], _∷_}
 use Prim.Native.Nat.{ℕ, _+_, _^_, _≤_, _<_, max}
 use native.Mathlib.Omega.{arith}
@@ -17,7 +17,7 @@ use Rattle.mdf4.specs.Act.{ok, and-then, check, Link, TX}
 use Rattle.mdf4.specs.Kinds.{shape, block-len, leads-to, name-is-text, name-head, name-check, name-len}
 use Rattle.mdf4.specs.Reads.{name-ranges}
 use Rattle.mdf4.specs.Describe.{name-bytes, name-text}
-use Rattle.mdf4.proofs.Bytes.{or-right}
+use Rattle.mdf4.proofs.Bytes.{or-right, and-right}
 
 -- no byte stands behind the header
 pub short-text : (n : List ℕ) → block-len n < 24 → name-text n ≡ []
@@ -28,14 +28,10 @@ short-text n h = rw (slice-past n 24 (block-len n) (omega arith)) (either (leb (
     either true = refl
     either false = refl
 
-right-true : (t u : Bool) → (t && u) ≡ true → u ≡ true
-right-true true u e = e
-right-true false u e = let z : _≡_ {A = ℕ} 0 1 = cc in absurd (omega arith)
-
 module _ (r : List ℕ) (l : Link) (text : name-is-text (length r) l ≡ true) where
   pub name-inside : l .target + 24 ≤ length r
   unfolding name-is-text
-  name-inside = leb-true (l .target + 24) (length r) (right-true (leads-to (shape TX .mark) l) (leb (l .target + 24) (length r)) text)
+  name-inside = leb-true (l .target + 24) (length r) (and-right (leads-to (shape TX .mark) l) (leb (l .target + 24) (length r)) text)
 
   pub head-is : name-head r l ≡ bytes r (l .target) 24
   unfolding name-head

@@ -1,14 +1,14 @@
 -- Two recordings that agree on what the first one reads have one listing, one tree and one clear list, and every entry gives one
 -- answer and leaves the same in the lent memory.
-use mathlib.Core.Path.{_≡_, refl, ap}
+use mathlib.Core.Path.{_≡_, refl, sym, ap, _∙_}
 use mathlib.Core.Bool.{cond, Bool, true, false}
-use mathlib.Core.List.{List, [], _∷_}
+use mathlib.Core.List.{List, [], _∷_, map}
 use Prim.Native.Nat.{ℕ, zero, suc, _+_, _/_, _<_}
 use native.Mathlib.Omega.{arith}
 use lib.Dec.{leb, eqb}
 use lib.ListN.{length, getD}
-use Rattle.mdf4.specs.Bytes.{bytes, num, within, inside, concat-map}
-use Rattle.mdf4.specs.Act.{Refusal, refusal, Result, Out, ok, err, and-then, check, Kind, CN, Row, Link, State, Limits, elem}
+use Rattle.mdf4.specs.Bytes.{bytes, num, Range, within, inside, concat-map}
+use Rattle.mdf4.specs.Act.{Result, Out, ok, err, and-then, Kind, CN, Row, Link, State, Limits, elem}
 use Rattle.mdf4.specs.Kinds.{read-len, is, name-link, name-is-text, name-len, name-head}
 use Rattle.mdf4.specs.Walk.{walk, start}
 use Rattle.mdf4.specs.Reads.{name-ranges, named-ranges, link-ranges, links-at, ranges-at, row-ranges, read-ranges, spared-ranges}
@@ -17,7 +17,7 @@ use Rattle.mdf4.specs.Clear.{clear-ranges}
 use Rattle.mdf4.specs.Describe.{name-bytes, block-bytes, row-name, describe, extra-line}
 use Rattle.mdf4.specs.Listing.{row-lines, block-links, links-of, to-text}
 use Rattle.mdf4.specs.Tree.{Edge, root, Child, child-at, child-of, children, Printed, render-children, node-line, node-by, render-tree-node, root-by, roots, to-tree, max-levels}
-use Rattle.mdf4.specs.Answers.{Lent, limits, laid, laid-finalized, exit, layout-made, to-text-made, to-tree-made, clear-list-made, layout-exit, to-text-exit, to-tree-exit, clear-list-exit, pair-words}
+use Rattle.mdf4.specs.Answers.{Lent, limits, laid, laid-finalized, room, clearable, Made, exit, counted, layout-made, to-text-made, to-tree-made, clear-list-made, blank-made, layout-exit, to-text-exit, to-tree-exit, clear-list-exit, blank-exit, pair-words}
 use Rattle.mdf4.proofs.Bytes.{inside-append, or-left, or-right, bytes-agree, concat-map-inside}
 use Rattle.mdf4.proofs.Reading.{row-links, Agree, within-in, read-len-same, block-bytes-same, links-at-same, name-head-same, own-agree, spared-ranges-same}
 use Rattle.mdf4.proofs.Lists.{All, all-append, all-map}
@@ -202,7 +202,7 @@ shared lim r r' s e c =
     record { size = c .size; finalized = rw (p, q); told = state-told r r' s t c; spared = spared-ranges-same r r' s t c }
 
 module _ (r r' : List ℕ) (s : State) (t : Shared r r' s) where
-  layout-of-same : layout-of r s ≡ layout-of r' s
+  pub layout-of-same : layout-of r s ≡ layout-of r' s
   unfolding layout-of
   layout-of-same = rw (t .size)
 
@@ -214,52 +214,77 @@ module _ (r r' : List ℕ) (s : State) (t : Shared r r' s) where
   unfolding layout-of
   spared-is = t .spared
 
-  clear-ranges-same : clear-ranges r (layout-of r s) ≡ clear-ranges r' (layout-of r s)
+  pub clear-ranges-same : clear-ranges r (layout-of r s) ≡ clear-ranges r' (layout-of r s)
   unfolding clear-ranges
   clear-ranges-same = rw (spared-is, t .size)
 
--- what follows the gap table's refusal takes the layout itself
+-- what follows a test takes what was there before it
+check-then : {A B : Type 0} (m : Out (Unit {0})) (a : A) (f g : A → Out B) → f a ≡ g a → and-then (and-then m (λ u. ok a)) f ≡ and-then (and-then m (λ u. ok a)) g
+unfolding and-then
+check-then (ok u) a f g e = e
+check-then (err x) a f g e = refl
+
 fitted-then : {B : Type 0} (lent : ℕ) (y : Layout) (f g : Layout → Out B) → f y ≡ g y → and-then (gaps-fitted lent y) f ≡ and-then (gaps-fitted lent y) g
-unfolding gaps-fitted and-then check
-fitted-then lent y f g e = go (leb (length (y .gaps)) lent) (refusal 13 0 lent (length (y .gaps)))
-  where
-    go : (b : Bool) (x : Refusal) → and-then (and-then (check b x) (λ u. ok y)) f ≡ and-then (and-then (check b x) (λ u. ok y)) g
-    go true x = e
-    go false x = refl
+unfolding gaps-fitted
+fitted-then lent y f g e = check-then _ y f g e
+
+and-then-assoc : {A B C : Type 0} (m : Out A) (f : A → Out B) (g : B → Out C) → and-then (and-then m f) g ≡ and-then m (λ a. and-then (f a) g)
+unfolding and-then
+and-then-assoc (ok a) f g = refl
+and-then-assoc (err x) f g = refl
+
+-- the preview with any count f of a range: recordings that differ in their clear bytes have this in common
+unfoldable pub counting : (Range → ℕ) → Lent → List ℕ → Out Made
+counting f n r = and-then (clearable n r) (λ y. and-then (room (n .out) (length (clear-ranges r y))) (λ u. ok (counted y (map f (clear-ranges r y)))))
 
 -- Two recordings whose walks answer the same, and share what an entry takes from them where they end: every entry answers the same
 -- and leaves the same in the lent memory, be it refused or not.
 module _ (n : Lent) (r r' : List ℕ) (o : Out State) (e : walk-state (limits n) r ≡ o) (e' : walk-state (limits n) r' ≡ o) (t : (s : State) → o ≡ ok s → Shared r r' s) where
   laid-then : {B : Type 0} (asked asked' : Out (Unit {0})) (f g : Layout → Out B) → ((s : State) → Shared r r' s → asked ≡ asked')
-      → ((s : State) → Shared r r' s → f (layout-of r s) ≡ g (layout-of r s))
+      → ((s : State) → o ≡ ok s → f (layout-of r s) ≡ g (layout-of r s))
       → and-then (layout-if asked (limits n) (n .gaps / pair-words) r) f ≡ and-then (layout-if asked' (limits n) (n .gaps / pair-words) r') g
   unfolding layout-if and-then
-  laid-then asked asked' f g a h = rw (e, e') (go o t)
+  laid-then asked asked' f g a h = rw (e, e') (go o t h)
     where
-      behind : (x : Out (Unit {0})) (s : State) → Shared r r' s
+      behind : (x : Out (Unit {0})) (s : State) → Shared r r' s → f (layout-of r s) ≡ g (layout-of r s)
           → and-then (and-then x (λ u. gaps-fitted (n .gaps / pair-words) (layout-of r s))) f ≡ and-then (and-then x (λ u. gaps-fitted (n .gaps / pair-words) (layout-of r' s))) g
-      behind (ok u) s t = rw (← layout-of-same r r' s t) (fitted-then _ (layout-of r s) f g (h s t))
-      behind (err x) s t = refl
+      behind (ok u) s t h = rw (← layout-of-same r r' s t) (fitted-then _ (layout-of r s) f g h)
+      behind (err x) s t h = refl
 
-      go : (o : Out State) → ((s : State) → o ≡ ok s → Shared r r' s)
+      go : (o : Out State) → ((s : State) → o ≡ ok s → Shared r r' s) → ((s : State) → o ≡ ok s → f (layout-of r s) ≡ g (layout-of r s))
           → and-then (and-then o (λ s. and-then asked (λ u. gaps-fitted (n .gaps / pair-words) (layout-of r s)))) f
           ≡ and-then (and-then o (λ s. and-then asked' (λ u. gaps-fitted (n .gaps / pair-words) (layout-of r' s)))) g
-      go (ok s) t = rw (← a s (t s refl)) (behind asked s (t s refl))
-      go (err x) t = refl
+      go (ok s) t h = rw (← a s (t s refl)) (behind asked s (t s refl) (h s refl))
+      go (err x) t h = refl
+
+  clearable-then : {B : Type 0} (f g : Layout → Out B) → ((s : State) → o ≡ ok s → f (layout-of r s) ≡ g (layout-of r s)) → and-then (clearable n r) f ≡ and-then (clearable n r') g
+  unfolding clearable laid-finalized
+  clearable-then f g h =
+      and-then-assoc (laid-finalized n r) _ f
+      ∙ laid-then _ _ _ _ (λ s t. t .finalized) (λ s q. rw (spared-is r r' s (t s q)) (check-then _ (layout-of r s) f g (h s q)))
+      ∙ sym (and-then-assoc (laid-finalized n r') _ g)
 
   pub layout-exit-same : layout-exit n r ≡ layout-exit n r'
   unfolding layout-exit layout-made laid layout
-  layout-exit-same = ap (exit n) (laid-then _ _ _ _ (λ s t. refl) (λ s t. refl))
+  layout-exit-same = ap (exit n) (laid-then _ _ _ _ (λ s t. refl) (λ s q. refl))
 
   pub to-text-exit-same : to-text-exit n r ≡ to-text-exit n r'
   unfolding to-text-exit to-text-made laid layout
-  to-text-exit-same = ap (exit n) (laid-then _ _ _ _ (λ s t. refl) (λ s t. rw (to-text-same r r' (layout-of r s) (t .size) (blocks-told r r' s t))))
+  to-text-exit-same = ap (exit n) (laid-then _ _ _ _ (λ s t. refl) (λ s q. rw (to-text-same r r' (layout-of r s) (t s q .size) (blocks-told r r' s (t s q)))))
 
   pub to-tree-exit-same : to-tree-exit n r ≡ to-tree-exit n r'
   unfolding to-tree-exit to-tree-made laid layout
-  to-tree-exit-same = ap (exit n) (laid-then _ _ _ _ (λ s t. refl) (λ s t. rw (to-tree-same r r' (layout-of r s) (t .size) (blocks-told r r' s t))))
+  to-tree-exit-same = ap (exit n) (laid-then _ _ _ _ (λ s t. refl) (λ s q. rw (to-tree-same r r' (layout-of r s) (t s q .size) (blocks-told r r' s (t s q)))))
 
   pub clear-list-exit-same : clear-list-exit n r ≡ clear-list-exit n r'
-  unfolding clear-list-exit clear-list-made laid-finalized
-  clear-list-exit-same =
-      ap (exit n) (laid-then _ _ _ _ (λ s t. t .finalized) (λ s t. rw (spared-is r r' s t, clear-ranges-same r r' s t, t .size)))
+  unfolding clear-list-exit clear-list-made
+  clear-list-exit-same = ap (exit n) (clearable-then _ _ (λ s q. rw (clear-ranges-same r r' s (t s q), t s q .size)))
+
+  pub blank-exit-same : blank-exit n r ≡ blank-exit n r'
+  unfolding blank-exit blank-made
+  blank-exit-same = ap (exit n) (clearable-then _ _ (λ s q. refl))
+
+  -- a preview, with counts that are the same where the walk ends
+  pub counting-same : (f g : Range → ℕ) → ((s : State) → o ≡ ok s → map f (clear-ranges r (layout-of r s)) ≡ map g (clear-ranges r (layout-of r s))) → counting f n r ≡ counting g n r'
+  unfolding counting
+  counting-same f g h = clearable-then _ _ (λ s q. rw (h s q, clear-ranges-same r r' s (t s q)))

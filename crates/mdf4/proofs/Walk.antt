@@ -7,12 +7,12 @@ use native.Mathlib.Omega.{arith}
 use lib.Dec.{leb, eqb}
 use lib.ListN.{length}
 use Rattle.mdf4.specs.Bytes.{bytes}
-use Rattle.mdf4.specs.Act.{refusal, ok, and-then, Kind, ID, UT, UD, Link, State, Limits, Act, choose, pure, _>>_, elem, visit, once}
+use Rattle.mdf4.specs.Act.{refusal, Result, Stop, ok, and-then, Kind, ID, UT, UD, Link, State, Limits, Act, choose, pure, _>>_, elem, visit, once}
 use Rattle.mdf4.specs.Kinds.{RecordLayout, no-records, shape, is, rest, read-len}
 use Rattle.mdf4.specs.Walk.{enter, text-kind, enter-text, walk-text-like, walk-source, walk-conversion, record-data-block, record-unknown-block, walk-data-block, walk-data-region, walk-channel, walk-channel-group, walk-data-group, walk-header, start, walk-identification, walk, walk-data-list, list-too-deep, Handed, Block}
-use Rattle.mdf4.proofs.Results.{and-then-ok, ok-both}
-use Rattle.mdf4.proofs.Reading.{row-links, Reads, Agree}
-use Rattle.mdf4.proofs.Good.{Good, Any, Ready, Inv, good-pure, good-stop, good-bind, good-then, good-choose, good-sized, good-seen, good-weaken, good-chain, good-each, good-once, good-enter, enter-head, enter-listed, enter-whole, enter-reads, offs}
+use Rattle.mdf4.proofs.Results.{and-then-ok, ok-both, on, both-then}
+use Rattle.mdf4.proofs.Reading.{row-links, Reads, Agree, lending}
+use Rattle.mdf4.proofs.Good.{Good, Any, Ready, Inv, again, good-pure, good-stop, good-bind, good-then, good-choose, good-sized, good-seen, good-weaken, good-chain, good-each, good-once, good-enter, enter-head, enter-listed, enter-whole, enter-reads, offs}
 
 pub ruleset shapes = (good-pure, good-stop, good-bind, good-then, good-choose, good-sized, good-seen, good-chain, good-each, good-once, good-enter)
 
@@ -31,9 +31,10 @@ good-enter-text a = record {
         fits = λ q. rw z at (w .fits q);
         kept = rw z at (w .kept);
         listed = λ i h. rw z at (w .listed i h);
-        again = λ r' c.
+        other = λ r' lim c.
             let c' : Agree r r' (q .0 .1) = rw z c in
-            rw (← enter-head k a (no-records 0) r r' s (q .0 .0) (q .0 .1) (q .1) c', w .again r' c') (q .2);
+            let p : _≡_ {A = Result Stop (Unit {0} × State)} (ok (tt, lending lim (q .0 .1))) (ok (x, lending lim s')) = (λ i. ok (tt, lending lim (z i))) in
+            rw (← enter-head k a (no-records 0) r r' s (q .0 .0) (q .0 .1) (q .1) c') (both-then _ _ (w .other r' lim c') (on p p));
       };
 }
 
@@ -98,12 +99,14 @@ pub good-walk-identification : Good Any walk-identification
 unfolding walk-identification
 good-walk-identification = search shapes depth 12
 
+pub walk-good : (fuel : ℕ) → Good Any (walk-identification >> walk-header fuel)
+walk-good fuel = good-then Any walk-identification (walk-header fuel) good-walk-identification (good-walk-header fuel)
+
 -- Demand 3: the walk of another recording that agrees on the read bytes
 pub walk-again : (lim : Limits) (r r' : List ℕ) (s : State) → walk r (start lim) ≡ ok (tt, s) → Agree r r' s → walk r' (start lim) ≡ ok (tt, s)
 unfolding walk start
 walk-again lim r r' s e c =
-    good-then Any walk-identification (walk-header (lim .visited)) good-walk-identification (good-walk-header (lim .visited))
-    .went r (start lim) tt s e .again r' c
+    again (walk-identification >> walk-header (lim .visited)) r (start lim) tt s (walk-good (lim .visited) .went r (start lim) tt s e) e r' c
 
 start-inv : (lim : Limits) (r : List ℕ) → Inv r (start lim)
 unfolding start elem row-links
@@ -111,9 +114,7 @@ start-inv lim r = record { known = λ x h. h; apart = tt; tidy = tt; table = ref
 
 pub walk-inv : (lim : Limits) (r : List ℕ) (s : State) → walk r (start lim) ≡ ok (tt, s) → Inv r s
 unfolding walk start
-walk-inv lim r s e =
-    good-then Any walk-identification (walk-header (lim .visited)) good-walk-identification (good-walk-header (lim .visited))
-    .went r (start lim) tt s e .keeps tt (start-inv lim r)
+walk-inv lim r s e = walk-good (lim .visited) .went r (start lim) tt s e .keeps tt (start-inv lim r)
 
 -- the ID is listed; its 64 bytes lie inside the recording and are read
 module _ (r : List ℕ) (lim : Limits) (s : State) (e : walk-identification r (start lim) ≡ ok (tt, s)) where

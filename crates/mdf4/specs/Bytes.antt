@@ -40,6 +40,15 @@ unfoldable pub bit : Bool → ℕ
 bit true = 1
 bit false = 0
 
+-- the sum of f over the numbers below n, and of a list
+unfoldable pub tally : (ℕ → ℕ) → ℕ → ℕ
+tally f zero = 0
+tally f (suc n) = tally f n + f n
+
+unfoldable pub sum : List ℕ → ℕ
+sum [] = 0
+sum (x ∷ xs) = x + sum xs
+
 -- how many of the ranges hold the byte i
 unfoldable pub count : ℕ → List Range → ℕ
 count i [] = 0

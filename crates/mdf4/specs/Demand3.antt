@@ -6,7 +6,7 @@ use mathlib.Core.List.{List, [], _∷_, map}
 use mathlib.Core.Logic.{_⊎_}
 use Prim.Native.Nat.{ℕ, zero, suc, _+_, _-_, _*_, _≤_, _<_}
 use lib.ListN.{length, getD, take, drop}
-use Rattle.mdf4.specs.Bytes.{num, Range, inside, bit, count}
+use Rattle.mdf4.specs.Bytes.{num, Range, inside, bit, count, tally}
 use Rattle.mdf4.specs.Act.{Refusal, refusal, Out, ok, err, State, elem}
 use Rattle.mdf4.specs.Reads.{read-ranges, kept-ranges}
 use Rattle.mdf4.specs.Layout.{Layout, walk-state}
@@ -58,11 +58,7 @@ offsets ps = map (λ (p : Range). p .0) ps
 unfoldable pub targets-in : Exit → Counts → List ℕ
 targets-in e c = offsets (ranges-in pair-words (c .links) (e .links))
 
--- the sum of f over the bytes below n, and the sum of the ranges' sizes
-unfoldable pub tally : (ℕ → ℕ) → ℕ → ℕ
-tally f zero = 0
-tally f (suc n) = tally f n + f n
-
+-- the sum of the ranges' sizes
 unfoldable pub sizes : List Range → ℕ
 sizes [] = 0
 sizes (p ∷ ps) = (p .1 - p .0) + sizes ps
@@ -118,7 +114,7 @@ pub record Unfinalized (r : List ℕ) : Type 0 where
   pub to : at < 64
   pub some : getD r at 0 ≡ 0 → ⊥
 
--- What a clear list answers of it, whatever is lent: a refusal of the walk comes first; behind the walk it is 16 with the two words
+-- What clear list, blanker and preview answer of it, whatever is lent: a refusal of the walk comes first; behind the walk it is 16 with the two words
 -- where the recording is unfinalised, and 16 means that it is.
 pub record Finalizing (n : Lent) (r : List ℕ) (a : Out Counts) : Type 0 where
   pub walk-first : (z : Refusal) → walk-state (limits n) r ≡ err z → a ≡ err z

@@ -7,8 +7,10 @@ pub mod Walk
 pub mod Reads
 pub mod Layout
 pub mod Clear
+pub mod Blank
 pub mod Describe
 pub mod Listing
 pub mod Tree
 pub mod Answers
 pub mod Demand3
+pub mod Blanked

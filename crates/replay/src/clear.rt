@@ -1,18 +1,15 @@
-// A copy of a recording with the ranges of its clear list zeroed.
-ghost use Prim.Native.Nat.{_≤_};
-ghost use lib.ListN.{length};
-ghost use Rattle.replay.specs.Parts.{Ordered};
-use crate::calls::same_again;
+// Copies of a recording, also with the ranges of its recorded clear list zeroed: what the blanker is to leave.
+use crate::compare::same_bytes;
 use crate::recording::Ends;
 use byteorder::read_u64;
 use tables::zero_bytes;
 
 // Bytes of the longest recording that is copied, and where a clear list's ranges begin.
-const COPY: usize = 32768;
+pub const COPY: usize = 32768;
 
 const RANGES: usize = 24;
 
-fn copy_bytes(to: &mut [u8], from: &[u8]) {
+pub(crate) fn copy_bytes(to: &mut [u8], from: &[u8]) {
     let mut i = 0;
     while i < to.len() {
         if from.len() <= i {
@@ -52,32 +49,34 @@ fn zero_ranges(copy: &mut [u8], clear: &[u8]) -> bool {
     true
 }
 
-// The entries answer the same when the clear ranges of the recording are zero.
-fn cleared_copy(b: &[u8], ends: Ends, copy: &mut [u8]) -> bool
-    requires { ⌜ Ordered ends × (ends .gaps ≤ length (now b)) ⌝ }
-{
+// Makes the copy the recording with the ranges of its recorded clear list zeroed; false where no clear list was recorded.
+pub(crate) fn zero_clear(copy: &mut [u8], data: &[u8], b: &[u8], ends: Ends) -> bool {
     let from = ends.tree;
     let to = ends.clear;
-    if to < from {
+    if to <= from {
         return false;
     }
     if b.len() < to {
         return false;
     }
-    copy_bytes(copy, b);
-    if !zero_ranges(copy, &b[from..to]) {
-        return false;
-    }
-    same_again(copy, b, ends)
+    copy_bytes(copy, data);
+    zero_ranges(copy, &b[from..to])
 }
 
-pub(crate) fn cleared(b: &[u8], ends: Ends) -> bool
-    requires { ⌜ Ordered ends × (ends .gaps ≤ length (now b)) ⌝ }
-{
-    let n = ends.file;
+// Whether `left` is what the copy becomes.
+fn same_as_zeroed(left: &[u8], copy: &mut [u8], data: &[u8], b: &[u8], ends: Ends) -> bool {
+    if !zero_clear(copy, data, b, ends) {
+        return false;
+    }
+    same_bytes(left, copy)
+}
+
+// Whether `left` is the recording with the ranges of its recorded clear list zeroed.
+pub(crate) fn is_blanked(left: &[u8], data: &[u8], b: &[u8], ends: Ends) -> bool {
+    let n = data.len();
     if COPY < n {
         return false;
     }
     let mut copy = [0u8; COPY];
-    cleared_copy(b, ends, &mut copy[..n])
+    same_as_zeroed(left, &mut copy[..n], data, b, ends)
 }

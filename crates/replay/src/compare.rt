@@ -1,11 +1,13 @@
-// What an entry answered and left in the tables and the output, held against the parts of a recording.
+// What an entry answered and left in the tables, the counts and the output, held against the parts of a recording.
 ghost use Prim.Native.Nat.{_≤_};
 ghost use lib.ListN.{length};
 ghost use Rattle.replay.specs.Parts.{Ordered};
 use crate::recording::Ends;
 use crate::recording::Entry;
+use crate::recording::PREVIEW;
 use crate::recording::TO_TREE;
 use crate::recording::Want;
+use crate::recording::size_of;
 use block_layout::Answer;
 use byteorder::read_u64;
 use tables::BLOCK_ROW_WORDS;
@@ -64,7 +66,7 @@ fn byte(part: &[u8], i: usize) -> u8 {
 }
 
 // Whether the output holds the bytes of a part, and zeros behind them.
-fn same_bytes(out: &[u8], part: &[u8]) -> bool {
+pub(crate) fn same_bytes(out: &[u8], part: &[u8]) -> bool {
     if out.len() < part.len() {
         return false;
     }
@@ -94,6 +96,17 @@ fn counted(visited: usize, blocks: usize, links: usize, gaps: usize, ends: Ends)
     gaps == (ends.gaps - ends.links) / 8 / PAIR_WORDS
 }
 
+// The total that an entry answers: the preview's, which is 0 on a blanked recording.
+fn total_of(ends: Ends, entry: Entry) -> u64 {
+    if entry.blanked {
+        return 0;
+    }
+    if entry.number == PREVIEW {
+        return ends.total;
+    }
+    0
+}
+
 fn answered(answer: Answer, ends: Ends, entry: Entry, want: Want) -> bool
     requires { ⌜ Ordered ends ⌝ }
 {
@@ -104,14 +117,15 @@ fn answered(answer: Answer, ends: Ends, entry: Entry, want: Want) -> bool
             links,
             gaps,
             bytes,
+            total,
         } => {
             if want.number != 0 {
                 return false;
             }
-            if entry.to < entry.from {
+            if bytes != size_of(entry) {
                 return false;
             }
-            if bytes != entry.to - entry.from {
+            if total != total_of(ends, entry) {
                 return false;
             }
             counted(visited, blocks, links, gaps, ends)
@@ -161,8 +175,16 @@ fn held(
     same_words(gaps, &b[e3..e4], false)
 }
 
-// Whether the output holds the entry's part of the recording.
-fn written(b: &[u8], entry: Entry, out: &[u8]) -> bool {
+// Whether the counts hold the preview's part of the recording; on a blanked one they are 0.
+fn same_counts(counts: &[u64], part: &[u8], blanked: bool) -> bool {
+    if blanked {
+        return all_zero(counts);
+    }
+    same_words(counts, part, false)
+}
+
+// Whether the counts or the output hold the entry's part of the recording.
+fn written(b: &[u8], entry: Entry, counts: &[u64], out: &[u8]) -> bool {
     let from = entry.from;
     let to = entry.to;
     if to < from {
@@ -171,11 +193,21 @@ fn written(b: &[u8], entry: Entry, out: &[u8]) -> bool {
     if b.len() < to {
         return false;
     }
+    if entry.number == PREVIEW {
+        return same_counts(counts, &b[from..to], entry.blanked);
+    }
     same_bytes(out, &b[from..to])
 }
 
 // Whether a refusal left all zeros.
-fn zeroed(visited: &[u64], blocks: &[u64], links: &[u64], gaps: &[u64], out: &[u8]) -> bool {
+fn zeroed(
+    visited: &[u64],
+    blocks: &[u64],
+    links: &[u64],
+    gaps: &[u64],
+    counts: &[u64],
+    out: &[u8],
+) -> bool {
     if !all_zero(visited) {
         return false;
     }
@@ -188,10 +220,13 @@ fn zeroed(visited: &[u64], blocks: &[u64], links: &[u64], gaps: &[u64], out: &[u
     if !all_zero(gaps) {
         return false;
     }
+    if !all_zero(counts) {
+        return false;
+    }
     same_bytes(out, b"")
 }
 
-// Whether the answer, the tables and the output are what is wanted. The scratch table always ends zero.
+// Whether the answer, the tables, the counts and the output are what is wanted. The scratch table always ends zero.
 pub(crate) fn settled(
     answer: Answer,
     b: &[u8],
@@ -203,6 +238,7 @@ pub(crate) fn settled(
     links: &[u64],
     gaps: &[u64],
     scratch: &[u64],
+    counts: &[u64],
     out: &[u8],
 ) -> bool
     requires { ⌜ Ordered ends × (ends .gaps ≤ length (now b)) ⌝ }
@@ -214,11 +250,11 @@ pub(crate) fn settled(
         return false;
     }
     if want.number != 0 {
-        return zeroed(visited, blocks, links, gaps, out);
+        return zeroed(visited, blocks, links, gaps, counts, out);
     }
     let marked = entry.number == TO_TREE;
     if !held(b, ends, marked, visited, blocks, links, gaps) {
         return false;
     }
-    written(b, entry, out)
+    written(b, entry, counts, out)
 }

@@ -1,7 +1,7 @@
 // Replays the Rust's recorded answers: standard input is the pack that tools/pack.py wrote, whose parts are said there. Each entry is
-// called with tables and an output lent exactly, with more than enough that is not a whole number of rows, and with each one short;
-// and again on a copy of the recording whose clear ranges are zero, but for unfinalised ones. Before each call all lent memory is
-// filled with ones. Prints the place of each recording that is answered otherwise, and how many there are.
+// called with tables, counts and an output lent exactly, with more than enough that is not a whole number of rows, and with each one short.
+// All of it is done again with the recording that the blanker leaves, but for unfinalised ones. Before each call all lent memory is filled
+// with ones. Prints the place of each recording that is answered otherwise, and how many there are.
 ghost use Prim.Native.Nat.{_≤_};
 ghost use lib.ListN.{length};
 ghost use Rattle.replay.specs.Parts.{Ordered};
@@ -13,8 +13,9 @@ mod recording;
 
 use calls::accepts;
 use calls::refuses;
-use calls::refuses_clear_list;
-use clear::cleared;
+use calls::refuses_unfinalized;
+use clear::COPY;
+use clear::zero_clear;
 use libc::STDOUT_FILENO;
 use recording::Ends;
 use recording::Want;
@@ -24,7 +25,29 @@ use recording::size_at;
 use recording::unfinalized;
 
 // Bytes of a recording's head.
-const HEAD: usize = 72;
+const HEAD: usize = 80;
+
+// All calls for what the blanker leaves of the recording, made in this copy.
+fn copy_calls(copy: &mut [u8], data: &[u8], b: &[u8], ends: Ends, places: Want) -> bool
+    requires { ⌜ Ordered ends × (ends .gaps ≤ length (now b)) ⌝ }
+{
+    if !zero_clear(copy, data, b, ends) {
+        return false;
+    }
+    accepts(copy, b, ends, places, true)
+}
+
+// All calls for what the blanker leaves of the recording.
+fn blanked_calls(data: &[u8], b: &[u8], ends: Ends, places: Want) -> bool
+    requires { ⌜ Ordered ends × (ends .gaps ≤ length (now b)) ⌝ }
+{
+    let n = data.len();
+    if COPY < n {
+        return false;
+    }
+    let mut copy = [0u8; COPY];
+    copy_calls(&mut copy[..n], data, b, ends, places)
+}
 
 // All calls for a recording. An unfinalised one has no clear list.
 fn calls_for(b: &[u8], ends: Ends, want: Want, unfinalized: Want) -> bool
@@ -34,18 +57,18 @@ fn calls_for(b: &[u8], ends: Ends, want: Want, unfinalized: Want) -> bool
     if want.number != 0 {
         return refuses(&b[..end], b, ends, want);
     }
-    if !accepts(&b[..end], b, ends, want) {
+    if !accepts(&b[..end], b, ends, want, false) {
         return false;
     }
     if unfinalized.number != 0 {
-        return refuses_clear_list(&b[..end], b, ends, want, unfinalized);
+        return refuses_unfinalized(&b[..end], b, ends, want, unfinalized);
     }
-    cleared(b, ends)
+    blanked_calls(&b[..end], b, ends, want)
 }
 
 // Whether the recording with this head and these parts is answered as it was recorded.
 fn replayed(head: &[u8], b: &[u8]) -> bool
-    requires { ⌜ 72 ≤ length (now head) ⌝ }
+    requires { ⌜ 80 ≤ length (now head) ⌝ }
 {
     let ends = ends_of(head);
     if ends.visited < ends.file {
@@ -68,9 +91,9 @@ fn replayed(head: &[u8], b: &[u8]) -> bool
 
 // Reads the parts of the recording with this head, and replays it.
 fn parts(head: &[u8], buf: &mut [u8]) -> bool
-    requires { ⌜ 72 ≤ length (now head) ⌝ }
+    requires { ⌜ 80 ≤ length (now head) ⌝ }
 {
-    let n = size_at(head, 28);
+    let n = size_at(head, 32);
     if buf.len() < n {
         return false;
     }

@@ -3,7 +3,9 @@ use mathlib.Core.Path.{refl, sym, _∙_}
 use mathlib.Core.List.{[]}
 use borrow.Author.Needs.{needs}
 use Rattle.file_layout.specs.Tables.{lent}
-use Rattle.block_layout.proofs.Exits.{laid-tables, laid-refused, refused-exit, layout-accepted, layout-refused}
+use Rattle.file_layout.proofs.Standing.{laid-tables, laid-refused}
+use Rattle.answers.proofs.Exits.{refused-exit}
+use Rattle.block_layout.proofs.Exits.{layout-accepted, layout-refused}
 use Rattle.block_layout.proofs.layout.Statement.{statement}
 use Rattle.block_layout.proofs.layout.Tie as tie
 

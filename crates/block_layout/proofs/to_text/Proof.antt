@@ -6,8 +6,9 @@ use borrow.Author.Needs.{needs}
 use lib.ListN.{length}
 use Rattle.mdf4.specs.Listing.{to-text}
 use Rattle.file_layout.specs.Tables.{lent}
-use Rattle.block_layout.proofs.Exits.{laid-tables, laid-refused, from-zeros, fits-same, text-refused, text-made}
-use Rattle.block_layout.proofs.Standing.{printable, shows}
+use Rattle.file_layout.proofs.Standing.{laid-tables, laid-refused, printable, shows}
+use Rattle.answers.proofs.Exits.{from-zeros, fits-same}
+use Rattle.block_layout.proofs.Exits.{text-refused, text-made}
 use Rattle.block_layout.proofs.to_text.Statement.{statement}
 use Rattle.block_layout.proofs.to_text.Tie as tie
 

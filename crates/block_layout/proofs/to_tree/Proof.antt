@@ -4,8 +4,10 @@ use native.Mathlib.Omega.{arith}
 use borrow.Author.Needs.{needs}
 use lib.ListN.{length}
 use Rattle.file_layout.specs.Tables.{lent}
-use Rattle.block_layout.proofs.Exits.{laid-tables, laid-refused, from-zeros, fits-same, tree-laid-refused, tree-refused, tree-made}
-use Rattle.block_layout.proofs.Standing.{printable, spare, holds, refilled}
+use Rattle.file_layout.proofs.Standing.{laid-tables, laid-refused, printable}
+use Rattle.answers.proofs.Exits.{from-zeros, fits-same}
+use Rattle.block_layout.proofs.Exits.{tree-laid-refused, tree-refused, tree-made}
+use Rattle.block_layout.proofs.Standing.{spare, holds, refilled}
 use Rattle.block_layout.proofs.to_tree.Statement.{statement}
 use Rattle.block_layout.proofs.to_tree.Tie as tie
 

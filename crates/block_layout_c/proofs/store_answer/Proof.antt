@@ -4,7 +4,7 @@ use native.Mathlib.Omega.{arith}
 use borrow.Author.Needs.{needs}
 use mathlib.Core.Path.{_∙_, ap}
 use lib.ListN.{length}
-use Rattle.block_layout_c.proofs.Storing.{nine, Storing, store-none, store-more, nine-stored}
+use Rattle.block_layout_c.proofs.Storing.{ten, Storing, store-none, store-more, ten-stored}
 use Rattle.block_layout_c.proofs.store_answer.Statement.{statement}
 use Rattle.block_layout_c.proofs.store_answer.Tie as tie
 
@@ -21,16 +21,16 @@ same-length : tie.Need-same-length Inv-loop μ-loop
 same-length c = c .before .before .loop .inv .long
 
 returns : tie.Need-returns Inv-loop μ-loop
-returns c = nine-stored _ (c .before .before .before .words-of .ensures) (c .before .before .loop .inv) (omega arith)
+returns c = ten-stored _ (c .before .before .before .words-of .ensures) (c .before .before .loop .inv) (omega arith)
 
 loop-again : tie.Need-loop-again Inv-loop μ-loop
-loop-again c = store-more _ _ _ _ (c .before .before .loop .inv) (omega (arith, ap length (c .before .before .before .words-of .ensures) ∙ nine _)) (c .before .loop-test .taken)
+loop-again c = store-more _ _ _ _ (c .before .before .loop .inv) (omega (arith, ap length (c .before .before .before .words-of .ensures) ∙ ten _)) (c .before .loop-test .taken)
 
 same-length-2 : tie.Need-same-length-2 Inv-loop μ-loop
 same-length-2 c = c .before .loop .inv .long
 
 returns-2 : tie.Need-returns-2 Inv-loop μ-loop
-returns-2 c = nine-stored _ (c .before .before .words-of .ensures) (c .before .loop .inv) (omega (arith, c .before .loop .inv .long))
+returns-2 c = ten-stored _ (c .before .before .words-of .ensures) (c .before .loop .inv) (omega (arith, c .before .loop .inv .long))
 
 pub store-answer-spec : {M : Type 1} → statement M
 store-answer-spec =

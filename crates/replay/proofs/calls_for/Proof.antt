@@ -11,8 +11,11 @@ slice-aggregate-refuses c = sym (length-take-le _ _ (search needs))
 slice-aggregate-accepts : tie.Need-slice-aggregate-accepts
 slice-aggregate-accepts c = sym (length-take-le _ _ (search needs))
 
-slice-aggregate-refuses-clear-list : tie.Need-slice-aggregate-refuses-clear-list
-slice-aggregate-refuses-clear-list c = sym (length-take-le _ _ (search needs))
+slice-aggregate-refuses-unfinalized : tie.Need-slice-aggregate-refuses-unfinalized
+slice-aggregate-refuses-unfinalized c = sym (length-take-le _ _ (search needs))
+
+slice-aggregate-blanked-calls : tie.Need-slice-aggregate-blanked-calls
+slice-aggregate-blanked-calls c = sym (length-take-le _ _ (search needs))
 
 pub calls-for-spec : {M : Type 1} → statement M
 calls-for-spec =
@@ -24,8 +27,9 @@ calls-for-spec =
     slice-aggregate-accepts
     (λ c κs. search needs)
     (λ c. search needs)
-    slice-aggregate-refuses-clear-list
+    slice-aggregate-refuses-unfinalized
     (λ c κs. search needs)
     (λ c. search needs)
+    slice-aggregate-blanked-calls
     (λ c κs. search needs)
     (λ c. search needs))

@@ -5,10 +5,10 @@ use Rattle.replay.proofs.calls.accepts.Statement.{statement}
 use Rattle.replay.proofs.calls.accepts.Tie as tie
 
 abbrev Inv-loop : tie.InvT-loop
-Inv-loop «data» b ends places number₀ number = number ≤ 255
+Inv-loop «data» b ends places blanked number₀ number = number ≤ 255
 
 abbrev μ-loop : tie.MeasureT-loop
-μ-loop «data» b ends places number₀ number = 255 - number
+μ-loop «data» b ends places blanked number₀ number = 255 - number
 
 pub accepts-spec : {M : Type 1} → statement M
 accepts-spec =

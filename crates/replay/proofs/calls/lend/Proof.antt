@@ -23,10 +23,14 @@ slice-aggregate-call-5 c = sym (length-take-le _ _ (search needs))
 slice-aggregate-call-6 : tie.Need-slice-aggregate-call-6
 slice-aggregate-call-6 c = sym (length-take-le _ _ (search needs))
 
+slice-aggregate-call-7 : tie.Need-slice-aggregate-call-7
+slice-aggregate-call-7 c = sym (length-take-le _ _ (search needs))
+
 pub lend-spec : {M : Type 1} → statement M
 lend-spec =
     tie.close
     (tie.spec
+    (λ c. search needs)
     (λ c. search needs)
     (λ c. search needs)
     (λ c. search needs)
@@ -45,5 +49,7 @@ lend-spec =
     slice-aggregate-call-5
     (λ c. search needs)
     slice-aggregate-call-6
+    (λ c. search needs)
+    slice-aggregate-call-7
     (λ c κs. search needs)
     (λ c. search needs))

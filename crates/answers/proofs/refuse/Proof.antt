@@ -1,0 +1,21 @@
+-- `refuse` meets its contract. Assumes nothing.
+use borrow.Author.Needs.{needs}
+use Rattle.answers.proofs.Exits.{refused-exit}
+use Rattle.answers.proofs.refuse.Statement.{statement}
+use Rattle.answers.proofs.refuse.Tie as tie
+
+returns : tie.Need-returns
+returns c = (λ n h. refused-exit n _ (search needs) (search needs) h, record { is = tt })
+
+pub refuse-spec : {M : Type 1} → statement M
+refuse-spec =
+    tie.close
+    (tie.spec
+    (λ c κs. search needs)
+    (λ c κs. search needs)
+    (λ c. search needs)
+    (λ c. search needs)
+    (λ c. search needs)
+    (λ c. search needs)
+    (λ c. search needs)
+    returns)

@@ -1,0 +1,3 @@
+-- Laws behind the functions' proofs.
+pub mod Zeroing
+pub mod Counting

@@ -1,0 +1,2 @@
+-- Laws behind the functions' proofs, lowest first.
+pub mod Writing
