@@ -7,10 +7,11 @@ use mathlib.Core.List.{List, []}
 use Prim.Native.Nat.{ℕ}
 use lib.ListN.{length, take, replicate}
 use Rattle.mdf4.specs.Bytes.{Range}
-use Rattle.mdf4.specs.Act.{Refusal, ok, err}
+use Rattle.mdf4.specs.Act.{Refusal, Out, ok, err}
 use Rattle.mdf4.specs.Clear.{clr-bytes}
 use Rattle.mdf4.specs.Blank.{zeroed}
-use Rattle.mdf4.specs.Answers.{Lent, Counts, Exit, layout-exit, to-text-exit, to-tree-exit, clear-list-exit, blank-exit, preview-exit, blank-recording}
+use Rattle.mdf4.specs.Answers as definition
+use Rattle.mdf4.specs.Answers.{Lent, Counts, Exit, Made, layout-exit, to-text-exit, to-tree-exit, clear-list-exit, blank-exit, preview-exit, blank-recording}
 use Rattle.mdf4.specs.Demand3.{Alike, Again, Tables, Cleared, Finalizing, Unasked}
 use Rattle.mdf4.specs.Blanked.{Blanks, Previews, After, untotalled, uncounted, preview-uncounted}
 use Rattle.mdf4.proofs.Results.{never}
@@ -202,12 +203,25 @@ module _ (n : Lent) (r r' : List ℕ) (a : Answer) (v b l g s : List ℕ) (exit 
         unfolding preview-uncounted
         preview-after p q = ap uncounted q ∙ after preview-uncounted blanked.preview-after ∙ ap uncounted (sym p)
 
--- Where a preview is accepted, so is the blanker with the same lengths.
+-- the lengths of the tables alone, as the blanker is lent them
+unfoldable pub tables-only : Lent → Lent
+tables-only n = record { visited = n .visited; blocks = n .blocks; links = n .links; gaps = n .gaps; scratch = n .scratch; out = 0 }
+
+exit-answer : (n n' : Lent) (m : Out Made) → definition.exit n' m .answer ≡ definition.exit n m .answer
+unfolding definition.exit
+exit-answer n n' (ok x) = refl
+exit-answer n n' (err z) = refl
+
+blank-answer : (n : Lent) (r : List ℕ) → blank-exit (tables-only n) r .answer ≡ blank-exit n r .answer
+unfolding tables-only blank-exit definition.blank-made definition.clearable definition.laid-finalized definition.limits
+blank-answer n r = exit-answer n (tables-only n) (definition.blank-made n r)
+
+-- Where a preview is accepted, so is the blanker, lent tables of the same lengths.
 pub preview-then-blank : (n : Lent) (r : List ℕ) (a : Answer) (v b l g s o : List ℕ) (c : Counts) → answered a ≡ ok c → left a v b l g s o ≡ preview-exit n r
-    → (a' : Answer) (v' b' l' g' s' o' : List ℕ) → left a' v' b' l' g' s' o' ≡ blank-exit n r → (c' : Counts) × (answered a' ≡ ok c')
-preview-then-blank n r a v b l g s o c e p a' v' b' l' g' s' o' q =
+    → (a' : Answer) (v' b' l' g' s' : List ℕ) → left a' v' b' l' g' s' [] ≡ blank-exit (tables-only n) r → (c' : Counts) × (answered a' ≡ ok c')
+preview-then-blank n r a v b l g s o c e p a' v' b' l' g' s' q =
     let z = blanked.shown-first .accepts n r c (told a v b l g s o p ∙ e) in
-    (z .0, sym (told a' v' b' l' g' s' o' q) ∙ z .1)
+    (z .0, sym (told a' v' b' l' g' s' [] q) ∙ blank-answer n r ∙ z .1)
 
 -- No call answers 8 (document 02, order 2).
 pub never-8 : (a : Answer) {e : Refusal} → answered a ≡ err e → e .number ≡ 8 → ⊥
