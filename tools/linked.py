@@ -123,6 +123,13 @@ def write(folder, made):
             o.write(recording)
 
 
+def hold_refused(name, recording, four, made, refused):
+    """Stops unless a recording of the table `refused` is refused with the four numbers there, and none of `made` is."""
+    assert name not in made, name
+    if name in refused:
+        assert refused[name] == (recording, four), (name, four)
+
+
 def main():
     write(sys.argv[1], MADE)
 

@@ -78,9 +78,7 @@ def check(name, recording, words, scratch, clr):
 
 def check_refused(name, recording, four):
     """Holds the refusal of a recording named here against that worked out by hand."""
-    assert name not in MADE, name
-    if name in REFUSED:
-        assert REFUSED[name] == (recording, four), (name, four)
+    linked.hold_refused(name, recording, four, MADE, REFUSED)
 
 
 def main():
