@@ -15,7 +15,6 @@ import sys
 import tempfile
 
 import deep
-import followed
 import recorded
 import unfinalized
 
@@ -39,8 +38,8 @@ def recordings():
         "identification_alone": ident,
         "longest": alone + bytes(BYTES - len(alone)),
         "too_long": alone + bytes(BYTES + 1 - len(alone)),
-        "data_blocks_581": data_blocks(581),
-        "data_blocks_582": data_blocks(582),
+        "data_blocks_678": data_blocks(678),
+        "data_blocks_679": data_blocks(679),
         "channels_400": deep.channels(400, 0),
         "unfinalized_tree": unfinalized.MADE["unfinalized_tree"][0],
     }
@@ -58,7 +57,7 @@ def printed(recording, rows, text, tree):
     if w[0] == 1:
         return [refused(*w[1:5])] * 3
     v, b, l, g = w[1:5]
-    lent = WORDS // followed.ROW
+    lent = WORDS // 12
     visited, blocks = w[5:5 + v], w[5 + v:5 + v + 12 * b]
     if b > lent:
         # 11 comes at the first block of the walk that has no row left; all that is visited here is listed

@@ -6,18 +6,14 @@
 FILE.. are recordings; without one, those of recordings/ whose modules crates/CRATE/proofs/Lib.antt lists. ANSWERS is the folder that
 the oracle's `--out` wrote for them (NAME.rows, and NAME.text and NAME.tree of an accepted one), AMENDED the one that the amended
 oracle's did (tools/amend.py): its answer counts where the Rust panics on a channel's name with a block_len under 24. The modules and
-Lib.antt go to crates/CRATE/proofs/. Each row is proved by computation, so a definition that answers otherwise is refused. The links
-behind the block rows and the longest path (order 3), which the Rust has not, are those of tools/followed.py. The clear list, which it
-has not either, is drawn here from the rows by the text of document 01 and of document 02's order 1, apart from the definition; that of
-an unfinalised recording is refusal 16 (order 4), with as much lent as its clear list would need.
+Lib.antt go to crates/CRATE/proofs/. Each row is proved by computation, so a definition that answers otherwise is refused. The clear
+list, which the Rust has not, is drawn here from the rows by the text of document 01 and of document 02's order 1, apart from the
+definition; that of an unfinalised recording is refusal 16 (order 4), with as much lent as its clear list would need.
 """
 import glob
 import os
 import struct
 import sys
-
-import followed
-from answers import tables
 
 USES = """use mathlib.Core.Path.{_≡_, refl}
 use mathlib.Core.List.{List, [], _∷_, _++_}
@@ -25,7 +21,7 @@ use Prim.Native.Nat.{ℕ}
 use lib.ListN.{replicate}
 use Rattle·fmt.specs.Text.{ascii}
 use Rattle·mdf4.specs.Act.{%s}
-use Rattle·mdf4.specs.Answers.{layout-exit, to-text-exit, to-tree-exit, path-exit, clear-list-exit}
+use Rattle·mdf4.specs.Answers.{layout-exit, to-text-exit, to-tree-exit, clear-list-exit}
 use Rattle·mdf4.proofs.Computed.{computed}
 use Rattle·mdf4.proofs.Recordings.{%s}
 
@@ -94,7 +90,7 @@ def num(r, a, n):
 
 
 def clear_list(r, blocks, links, gaps):
-    """Scratch rows and CLR bytes, from the Rust's rows by the text of document 01 and of document 02's order 1."""
+    """Scratch rows and CLR bytes, from the text of document 01 and of document 02's order 1."""
     reads, kept = [], []
     for k in range(0, len(blocks), 12):
         off, kind, first = blocks[k], blocks[k + 4], blocks[k + 6]
@@ -157,7 +153,8 @@ def module(name, r, answers, amended):
     assert w == rows_of(other), "the amended Rust differs"
     out = "-- %s.mf4, as %s answers it.\n" % (name, whose)
     flags = flag_words(r)
-    out += USES % (("ok, err, refusal", "lent, counts") if w[0] == 0 else ("err, refusal", "lent"))
+    accepts = "ok, err, refusal" if any(flags) else "ok"
+    out += USES % ((accepts, "lent, counts") if w[0] == 0 else ("err, refusal", "lent"))
     out += "recording : List ℕ\nrecording =\n%s\n\n" % content(r)
 
     def refused(label, entry, lent, four):
@@ -165,35 +162,39 @@ def module(name, r, answers, amended):
                " links = replicate %d 0; gaps = replicate %d 0; scratch = replicate %d 0; out = replicate %d 0 }\n" \
                "unfolding computed recording\n%s = refl\n\n" % ((label, entry) + lent + four + lent + (label,))
     if w[0] == 1:
-        for label, entry in (("layout", "layout-exit"), ("text", "to-text-exit"), ("tree", "to-tree-exit"), ("path", "path-exit 64"),
-                             ("clear", "clear-list-exit")):
-            out += refused(label, entry, (999, 11665, 999, 999, 999, 9), w[1:5])
+        for label, entry in (("layout", "layout-exit"), ("text", "to-text-exit"), ("tree", "to-tree-exit"), ("clear", "clear-list-exit")):
+            out += refused(label, entry, (999, 9999, 999, 999, 999, 9), w[1:5])
         return out.rstrip("\n") + "\n"
     v, b, l, g = w[1:5]
-    visited, blocks, links, gaps = tables(w)
+    p = 5
+    visited, p = w[p:p + v], p + v
+    blocks, p = list(w[p:p + 12 * b]), p + 12 * b
+    links, p = w[p:p + 2 * l], p + 2 * l
+    gaps = w[p:p + 2 * g]
+    for k in range(0, 12 * b, 12):
+        if blocks[k + 7] == 0:
+            blocks[k + 6] = 0    # the first link of a row without links is 0 (docs/DECISIONS.md)
     text, tree = open(base + ".text", "rb").read(), open(base + ".tree", "rb").read()
     scratch, clr = clear_list(r, blocks, links, gaps)
-    blocks = followed.widened(r, visited, blocks, links)
-    out += "".join("%s : List ℕ\n%s =\n%s\n\n" % (n, n, table(x)) for n, x in (("visited", visited), ("links", links), ("gaps", gaps)))
+    tables = "".join("%s : List ℕ\n%s =\n%s\n\n" % (n, n, table(x)) for n, x in (("visited", visited), ("links", links), ("gaps", gaps)))
+    out += tables
 
     def exits(tree_mark):
-        blocks[11::followed.ROW] = [tree_mark] * b
+        for k in range(0, 12 * b, 12):
+            blocks[k + 11] = tree_mark
         return wrapped([str(x) for x in blocks] + ["[]"], "∷")
 
     def answer(label, entry, scratch_words, out_bytes, tree_mark, shown):
         return "%s : %s (lent %d %d %d %d %d %d) recording\n    ≡ record { answer = ok (counts %d %d %d %d %d); visited = visited; blocks = %s; links = links; gaps = gaps; scratch = replicate %d 0; out =\n%s }\n" \
                "unfolding computed recording visited links gaps %s\n%s = refl\n\n" % (
-                   label, entry, v, len(blocks), 2 * l, 2 * g, scratch_words, out_bytes, v, b, l, g, out_bytes, tree_mark, scratch_words, shown, tree_mark, label)
+                   label, entry, v, 12 * b, 2 * l, 2 * g, scratch_words, out_bytes, v, b, l, g, out_bytes, tree_mark, scratch_words, shown, tree_mark, label)
     out += "blocks : List ℕ\nblocks =\n%s\n\n" % exits(0)
     out += answer("layout", "layout-exit", 0, 0, "blocks", "    []")
     out += answer("text", "to-text-exit", 0, len(text), "blocks", content(text, 1))
     if any(flags):
-        out += refused("clear", "clear-list-exit", (v, len(blocks), 2 * l, 2 * g, 2 * scratch, len(clr)), (16, 60) + flags)
+        out += refused("clear", "clear-list-exit", (v, 12 * b, 2 * l, 2 * g, 2 * scratch, len(clr)), (16, 60) + flags)
     else:
         out += answer("clear", "clear-list-exit", 2 * scratch, len(clr), "blocks", table(clr))
-    path = max((followed.path(blocks, offset) for offset in blocks[0::followed.ROW]), key=len)
-    out += answer("path", "path-exit %d" % path[-1], 0, len(path), "blocks", table(path))
-    out += refused("path-short", "path-exit %d" % path[-1], (v, len(blocks), 2 * l, 2 * g, 0, len(path) - 1), (13, 0, len(path) - 1, len(path)))
     out += "marked-blocks : List ℕ\nmarked-blocks =\n%s\n\n" % exits(1)
     out += answer("tree", "to-tree-exit", 0, len(tree), "marked-blocks", content(tree, 1))
     return out.rstrip("\n") + "\n"

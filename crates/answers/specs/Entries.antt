@@ -11,8 +11,7 @@ abbrev pub answered : Answer → Out Counts
 answered (answer_variants.Accepted v b l g n t) = ok (record { visited = v; blocks = b; links = l; gaps = g; bytes = n; total = t })
 answered (answer_variants.Refused e) = err (numbers e)
 
--- an answer with the words of the tables and the scratch table and the bytes of the output, or the words of a path or of the preview's
--- counts, at exit
+-- an answer with the words of the tables and the scratch table and the bytes of the output, or the preview's counts, at exit
 unfoldable pub exit_with : Out Counts → List ℕ → List ℕ → List ℕ → List ℕ → List ℕ → List ℕ → Exit
 exit_with a v b l g scratch out = record { answer = a; visited = v; blocks = b; links = l; gaps = g; scratch = scratch; out = out }
 
@@ -27,7 +26,7 @@ pub record Long (n : Lent) (v b l g o : List ℕ) : Type 0 where
   pub gaps : length g ≡ n.gaps
   pub out : length o ≡ n.out
 
--- the bytes answered, or the words of a path or the preview's counts, are at most k
+-- the bytes answered, or the number of the preview's counts, are at most k
 abbrev pub Within : Answer → ℕ → Type 0
 Within (answer_variants.Accepted v b l g n t) k = n ≤ k
 Within (answer_variants.Refused e) k = Unit

@@ -13,8 +13,8 @@ use blocks::error::MdfError;
 use file_layout::zero_tables;
 use tables::zero_bytes;
 
-// What an entry answers: the rows of each table and the bytes of the output in use, or a refusal. `bytes` of a path is the number of its
-// words, of the preview that of its counts; `total` is the counts' total, and 0 of any other entry.
+// What an entry answers: the rows of each table and the bytes of the output in use; of the preview the number of its counts, in `bytes`,
+// and their total, which is 0 of any other entry; or a refusal.
 #[derive(Drop)]
 pub enum Answer {
     Accepted {

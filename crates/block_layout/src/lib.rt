@@ -1,5 +1,5 @@
 // The entries of the block layout: each takes the recording and the lent tables, walks by itself, and answers the rows and bytes in
-// use or a refusal. The path, and those that go over the clear ranges, stand in crates of their own and are passed on.
+// use or a refusal. Those that go over the clear ranges stand in crates of their own and are passed on.
 ghost use Rattle.std.specs.Prelude.{◌≡◌, [], length};
 ghost use Rattle.mdf4.specs.Answers.{layout_exit, to_text_exit, to_tree_exit};
 ghost use Rattle.answers.specs.Entries.{left, Fits};
@@ -10,7 +10,6 @@ use answers::{fit, refuse};
 pub use blank_entry::blank;
 use file_layout::{Laid, lay, zero_tables};
 pub use list_entry::clear_list;
-pub use path_entry::path;
 pub use preview_entry::preview;
 use tables::zero_bytes;
 use to_text::put_text;

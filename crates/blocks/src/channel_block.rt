@@ -8,7 +8,7 @@ use crate::common::{BlockHeader, HeaderRead};
 use crate::error::MdfError;
 use byteorder::{read_u8, read_u32, read_u64};
 
-#[derive(Drop)]
+#[derive(Clone, Copy)]
 pub struct ChannelBlock {
     pub block_len: u64,
     pub next_ch_addr: u64,

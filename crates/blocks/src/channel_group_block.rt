@@ -11,7 +11,7 @@ use crate::error::MdfError;
 use crate::extent::{Extent, need_from_block};
 use byteorder::{read_u16, read_u32, read_u64};
 
-#[derive(Drop)]
+#[derive(Clone, Copy)]
 pub struct ChannelGroupBlock {
     pub block_len: u64,
     pub links_nr: u64,

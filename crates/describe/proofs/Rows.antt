@@ -11,7 +11,6 @@ use Rattle.mdf4.specs.Bytes.{bytes, little, num}
 use Rattle.mdf4.specs.Act.{ok, Kind, ID, HD, DG, CG, CN, SI, TX, MD, DT, SD, DL, UT, UD}
 use Rattle.mdf4.specs.Kinds.{shape, is, read_len, read_of, read_block, name_link}
 use Rattle.mdf4.specs.Reads.{links_at, listed_len}
-use Rattle.mdf4.specs.Answers.{block_row_words}
 use Rattle.mdf4.specs.Describe.{describe_of, extra_of, block_bytes, row_name, name_bytes, describe, extra_line}
 use Rattle.mdf4.proofs.Good.{Readable}
 use Rattle.mdf4.proofs.Results.{check_ok}
@@ -23,16 +22,15 @@ use Rattle.describe.specs.declared.BlockInfo.{BlockInfo}
 use Rattle.describe.specs.Info.{row_of, OfKind}
 
 -- its row, word by word
-pub row_read : (t : List ℕ) (i : ℕ) {a e s m k x f n z v d p q : ℕ}
-    → a ≡ get_or t (i * block_row_words) 0 → e ≡ get_or t (i * block_row_words + 1) 0 → s ≡ get_or t (i * block_row_words + 2) 0 → m ≡ get_or t (i * block_row_words + 3) 0 → k ≡ get_or t (i * block_row_words + 4) 0 → x ≡ get_or t (i * block_row_words + 5) 0
-    → f ≡ get_or t (i * block_row_words + 6) 0 → n ≡ get_or t (i * block_row_words + 7) 0 → z ≡ get_or t (i * block_row_words + 8) 0 → v ≡ get_or t (i * block_row_words + 9) 0 → d ≡ get_or t (i * block_row_words + 10) 0
-    → p ≡ get_or t (i * block_row_words + 12) 0 → q ≡ get_or t (i * block_row_words + 13) 0
-    → row_of (record { offset = a; end_offset = e; size = s; mark = m; kind = k; index = x; first_link = f; link_count = n; record_size = z; invalidation_bytes = v; record_id_len = d; from_block = p; from_link = q })
+pub row_read : (t : List ℕ) (i : ℕ) {a e s m k x f n z v d : ℕ}
+    → a ≡ get_or t (i * 12) 0 → e ≡ get_or t (i * 12 + 1) 0 → s ≡ get_or t (i * 12 + 2) 0 → m ≡ get_or t (i * 12 + 3) 0 → k ≡ get_or t (i * 12 + 4) 0 → x ≡ get_or t (i * 12 + 5) 0
+    → f ≡ get_or t (i * 12 + 6) 0 → n ≡ get_or t (i * 12 + 7) 0 → z ≡ get_or t (i * 12 + 8) 0 → v ≡ get_or t (i * 12 + 9) 0 → d ≡ get_or t (i * 12 + 10) 0
+    → row_of (record { offset = a; end_offset = e; size = s; mark = m; kind = k; index = x; first_link = f; link_count = n; record_size = z; invalidation_bytes = v; record_id_len = d })
     ≡ row_at i t
 unfolding row_of row_at row_of_words
-row_read t i e0 e1 e2 e3 e4 e5 e6 e7 e8 e9 e10 e12 e13 =
+row_read t i e0 e1 e2 e3 e4 e5 e6 e7 e8 e9 e10 =
     let w = row_is t i in
-    rw (e0, e1, e2, e3, e4, e5, e6, e7, e8, e9, e10, e12, e13, ← w.off, ← w.end, ← w.size, ← w.mark, ← w.kind, ← w.index, ← w.first_link, ← w.link_count, ← w.record_size, ← w.invalidation_bytes, ← w.record_id_len, ← w.from_block, ← w.from_link)
+    rw (e0, e1, e2, e3, e4, e5, e6, e7, e8, e9, e10, ← w.off, ← w.end, ← w.size, ← w.mark, ← w.kind, ← w.index, ← w.first_link, ← w.link_count, ← w.record_size, ← w.invalidation_bytes, ← w.record_id_len)
 
 -- its kind, by the number
 of_kind : (k : Kind) {r : List ℕ} {b : BlockInfo} → b.kind ≡ (shape k).number → Readable r (row_of b) → OfKind k r b

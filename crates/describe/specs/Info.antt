@@ -19,8 +19,6 @@ row_of b = record {
   record_size = b.record_size;
   invalidation_bytes = b.invalidation_bytes;
   record_id_len = b.record_id_len;
-  from_block = b.from_block;
-  from_link = b.from_link;
 }
 
 -- the block is of the kind k, and can be read in the recording r

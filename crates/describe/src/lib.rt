@@ -44,8 +44,6 @@ pub struct BlockInfo {
     pub record_size: u64,
     pub invalidation_bytes: u64,
     pub record_id_len: u64,
-    pub from_block: u64,
-    pub from_link: u64,
 }
 
 // Row i of the block table.
@@ -66,8 +64,6 @@ pub fn block_at(blocks: &[u64], i: usize) -> BlockInfo
         record_size: blocks[at + 8],
         invalidation_bytes: blocks[at + 9],
         record_id_len: blocks[at + 10],
-        from_block: blocks[at + 12],
-        from_link: blocks[at + 13],
     }
 }
 

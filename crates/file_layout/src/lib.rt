@@ -52,8 +52,6 @@ pub fn walk_file(
         dg: 0,
         cg: 0,
         cn: 0,
-        from_block: 0,
-        from_link: 0,
     };
     walk(data, visited, blocks, links, start)
 }

@@ -16,14 +16,11 @@ fn word(part: &[u8], i: usize) -> u64 {
     }
 }
 
-// The word of a block row that says whether a tree printed it.
-const TREE_MARK: usize = 11;
-
-// The same of the block rows that a tree marked.
+// The same of the block rows that a tree marked: the last word of each is 1.
 fn row_word(part: &[u8], i: usize, marked: bool) -> u64 {
     if marked {
         if i < part.len() / 8 {
-            if i % BLOCK_ROW_WORDS == TREE_MARK {
+            if i % BLOCK_ROW_WORDS == BLOCK_ROW_WORDS - 1 {
                 return 1;
             }
         }

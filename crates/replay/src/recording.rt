@@ -23,7 +23,7 @@ pub const ENTRIES: u8 = 6;
 // Words that there are to lend of each table, and bytes of the output.
 pub const VISITED: usize = 1024;
 
-pub const BLOCKS: usize = 14336;
+pub const BLOCKS: usize = 12288;
 
 pub const LINKS: usize = 4096;
 
@@ -36,7 +36,7 @@ pub const COUNTS: usize = 1024;
 pub const OUT: usize = 16384;
 
 // The places behind a recording's parts, the rows that its clear list needs of the scratch table, and its preview's total.
-#[derive(Drop)]
+#[derive(Clone, Copy)]
 pub struct Ends {
     pub file: usize,
     pub visited: usize,
@@ -52,7 +52,7 @@ pub struct Ends {
 }
 
 // An entry, where its bytes or counts stand in the parts, and whether it is called on the blanked recording, where all counts are 0.
-#[derive(Drop)]
+#[derive(Clone, Copy)]
 pub struct Entry {
     pub number: u8,
     pub from: usize,
@@ -61,7 +61,7 @@ pub struct Entry {
 }
 
 // Words lent of each table, and bytes of the output.
-#[derive(Drop)]
+#[derive(Clone, Copy)]
 pub struct Lent {
     pub visited: usize,
     pub blocks: usize,
@@ -73,7 +73,7 @@ pub struct Lent {
 }
 
 // The answer that is wanted: a refusal, or number 0.
-#[derive(Drop)]
+#[derive(Clone, Copy)]
 pub struct Want {
     pub number: u64,
     pub place: u64,

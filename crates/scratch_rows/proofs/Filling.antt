@@ -8,7 +8,6 @@ use native.Mathlib.Numerals.{add-one}
 use lib.Dec.{leb, eqb}
 use lib.ListN.{length, get_or}
 use borrow.Author.Tests.{le-leb, lt-leb, leb-true, ne_eqb}
-use Rattle.mdf4.specs.Answers.{block_row_words}
 use Rattle.mdf4.specs.Bytes.{Range, little, num, concat_map}
 use Rattle.mdf4.specs.Kinds.{mark_of, block_len, read_len, make_link}
 use Rattle.mdf4.specs.Reads.{leads_to_block, link_ranges}
@@ -72,7 +71,7 @@ module _ (r : List ℕ) (t : ℕ) where
   block_pushed p q e = rw (num_bytes r t 24 8 8 (omega arith), ← e) (pushed_then p q)
 
 -- one row more
-row_covered : (r b : List ℕ) (i : ℕ) → row_cover r (row_at i b) ≡ cover r (get_or b (i * block_row_words) 0) (get_or b (i * block_row_words + 1) 0) (kind_of (get_or b (i * block_row_words + 4) 0))
+row_covered : (r b : List ℕ) (i : ℕ) → row_cover r (row_at i b) ≡ cover r (get_or b (i * 12) 0) (get_or b (i * 12 + 1) 0) (kind_of (get_or b (i * 12 + 4) 0))
 unfolding row_cover
 row_covered r b i = let w = row_is b i in rw (w.off, w.end, w.kind)
 
@@ -82,7 +81,7 @@ link_covered r l i = rw (link_is l i)
 
 module _ (r b : List ℕ) (i : ℕ) {t t' t'' : List ℕ} {c c' c'' : ℕ} where
   pub row_turn : Pushed t c (concat_map (row_cover r) (held_rows i b)) t' c'
-      → Pushed t' c' (cover r (get_or b (i * block_row_words) 0) (get_or b (i * block_row_words + 1) 0) (kind_of (get_or b (i * block_row_words + 4) 0))) t'' c''
+      → Pushed t' c' (cover r (get_or b (i * 12) 0) (get_or b (i * 12 + 1) 0) (kind_of (get_or b (i * 12 + 4) 0))) t'' c''
       → Pushed t c (concat_map (row_cover r) (held_rows (i + 1) b)) t'' c''
   row_turn p q = rw (add-one, rows_more, concat_map_snoc, row_covered r b i) (pushed_then p q)
 
@@ -100,7 +99,7 @@ unfolding held_links table concat_map
 links_none r l t c = pushed_none t c
 
 -- the own bytes of each row lie inside the file
-pub row_whole : (r b : List ℕ) (i : ℕ) → Readable r (row_at i b) → get_or b (i * block_row_words) 0 + read_len (kind_of (get_or b (i * block_row_words + 4) 0)) r (get_or b (i * block_row_words) 0) ≤ length r
+pub row_whole : (r b : List ℕ) (i : ℕ) → Readable r (row_at i b) → get_or b (i * 12) 0 + read_len (kind_of (get_or b (i * 12 + 4) 0)) r (get_or b (i * 12) 0) ≤ length r
 row_whole r b i q =
     let w = row_is b i in
     let l : (row_at i b).off + read_len (row_at i b).kind r (row_at i b).off ≤ length r = read_whole (row_at i b).kind r (row_at i b).off _ q in

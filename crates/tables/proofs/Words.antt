@@ -31,8 +31,6 @@ pub record RowIs (b : List ℕ) (i : ℕ) (w : Row) : Type 0 where
   pub record_size : w.record_size ≡ get_or b (i * block_row_words + 8) 0
   pub invalidation_bytes : w.invalidation_bytes ≡ get_or b (i * block_row_words + 9) 0
   pub record_id_len : w.record_id_len ≡ get_or b (i * block_row_words + 10) 0
-  pub from_block : w.from_block ≡ get_or b (i * block_row_words + 12) 0
-  pub from_link : w.from_link ≡ get_or b (i * block_row_words + 13) 0
 
 pub row_is : (b : List ℕ) (i : ℕ) → RowIs b i (row_at i b)
 unfolding row_at row_of_words
@@ -52,8 +50,6 @@ row_is b i =
       record_size = at 8 (omega arith);
       invalidation_bytes = at 9 (omega arith);
       record_id_len = at 10 (omega arith);
-      from_block = at 12 (omega arith);
-      from_link = at 13 (omega arith);
     }
 
 pub link_is : (l : List ℕ) (i : ℕ) → link_at i l ≡ record { target = get_or l (i * pair_words) 0; found = get_or l (i * pair_words + 1) 0 }

@@ -21,8 +21,6 @@ row_of_words t = record {
   record_size = get_or t 8 0;
   invalidation_bytes = get_or t 9 0;
   record_id_len = get_or t 10 0;
-  from_block = get_or t 12 0;
-  from_link = get_or t 13 0;
 }
 
 unfoldable pub link_of_words : List ℕ → Link

@@ -24,7 +24,7 @@ use Rattle.blocks.proofs.Parse.{parsed_ok}
 use Rattle.blocks.proofs.Extents.{own_of}
 use Rattle.walk_state.specs.declared.Walk.{Walk}
 use Rattle.walk_state.specs.Held.{said, Linked, Tells}
-use Rattle.walk_blocks.specs.Regions.{Opening, passed, linked, open_list, enter_list, Opened, Opens, Deep}
+use Rattle.walk_blocks.specs.Regions.{open_list, enter_list, Opened, Opens, Deep}
 use Rattle.walk_blocks.specs.declared.regions.Entered.{Entered}
 use Rattle.walk_blocks.specs.declared.regions.Entered.TheVariants.{Seen, List as DataList, Refused}
 use Rattle.walk_blocks.proofs.Entering.{once_on, once_off}
@@ -130,20 +130,20 @@ module _ (a : ℕ) (r : List ℕ) (s : State) where
   unfolding open_list ◌>>=◌ pure and_then reason
   open_off {e = e} p = go (enter DL a (no_records 0) r s) p
     where
-      go : (z : Result Stop (Block × State)) → said z ≡ err e → reason {A = Opening × State} (and_then z (λ q. ok (linked q.0.1, q.1))) ≡ err e
+      go : (z : Result Stop (Block × State)) → said z ≡ err e → reason {A = List Link × State} (and_then z (λ q. ok (q.0.1, q.1))) ≡ err e
       go (ok q) d = never d
       go (err x) d = same_why x e d
 
-  pub open_on : {o : List ℕ} {ls : List Link} {s' : State} → enter DL a (no_records 0) r s ≡ ok ((o, ls), s') → reason (open_list a r s) ≡ ok (linked ls, s')
+  pub open_on : {o : List ℕ} {ls : List Link} {s' : State} → enter DL a (no_records 0) r s ≡ ok ((o, ls), s') → reason (open_list a r s) ≡ ok (ls, s')
   unfolding open_list ◌>>=◌ pure and_then reason
   open_on e = rw e
 
 -- a list at a depth
 module _ (a : ℕ) (r : List ℕ) (s : State) where
-  pub enter_seen : (d : ℕ) → elem a s.visited ≡ true → reason (enter_list d a r s) ≡ ok (passed, s)
+  pub enter_seen : (d : ℕ) → elem a s.visited ≡ true → reason (enter_list d a r s) ≡ ok ([], s)
   unfolding enter_list seen choose pure reason
   enter_seen zero e = rw e
-  enter_seen (suc d) e = rw (once_seen DL a passed (open_list a) r s e)
+  enter_seen (suc d) e = rw (once_seen DL a [] (open_list a) r s e)
 
   module _ (n : elem a s.visited ≡ false) where
     pub enter_deep : (d : ℕ) → d ≡ 0 → reason (enter_list d a r s) ≡ err (refusal 15 a 512 0)
@@ -153,19 +153,19 @@ module _ (a : ℕ) (r : List ℕ) (s : State) where
     pub enter_full : (d : ℕ) → (d ≡ 0 → ⊥) → {e : Refusal} → said (visit DL a r s) ≡ err e → reason (enter_list d a r s) ≡ err e
     unfolding enter_list reason
     enter_full zero z p = absurd (z refl)
-    enter_full (suc d) z {e = e} p = go (once DL a passed (open_list a) r s) (once_off DL a passed (open_list a) r s n e p)
+    enter_full (suc d) z {e = e} p = go (once DL a [] (open_list a) r s) (once_off DL a [] (open_list a) r s n e p)
       where
-        go : (x : Result Stop (Opening × State)) → said x ≡ err e → reason x ≡ err e
+        go : (x : Result Stop (List Link × State)) → said x ≡ err e → reason x ≡ err e
         go (ok q) d = never d
         go (err q) d = same_why q e d
 
     pub enter_new : (d : ℕ) → (d ≡ 0 → ⊥) → (s' : State) → said (visit DL a r s) ≡ ok s' → reason (enter_list d a r s) ≡ reason (open_list a r s')
     unfolding enter_list
     enter_new zero z s' p = absurd (z refl)
-    enter_new (suc d) z s' p = ap reason (once_on DL a passed (open_list a) r s n s' p)
+    enter_new (suc d) z s' p = ap reason (once_on DL a [] (open_list a) r s n s' p)
 
 -- a last callee's answer handed up
-pub opened_from : {w w1 : Walk} {x : Entered} {r : List ℕ} {a : ℕ} {v b l : List ℕ} {o o1 : Out (Opening × State)}
+pub opened_from : {w w1 : Walk} {x : Entered} {r : List ℕ} {a : ℕ} {v b l : List ℕ} {o o1 : Out (List Link × State)}
     → Opens w1 x r a v b l o1 → w.visited ≤ w1.visited → o ≡ o1 → Opens w x r a v b l o
 opened_from {w} {w1} {x} {r} {a} {v} {b} {l} m h p = record { says = m.says ∙ sym p; after = go x m.after }
   where
@@ -175,7 +175,7 @@ opened_from {w} {w1} {x} {r} {a} {v} {b} {l} m h p = record { says = m.says ∙ 
     go (Refused e) t = tt
 
 -- a refusal
-pub open_refused : {w : Walk} {x : Entered} {r : List ℕ} {a : ℕ} {v b l : List ℕ} {o : Out (Opening × State)} {e : MdfError}
+pub open_refused : {w : Walk} {x : Entered} {r : List ℕ} {a : ℕ} {v b l : List ℕ} {o : Out (List Link × State)} {e : MdfError}
     → x ≡ Refused e → o ≡ err (numbers e) → Opens w x r a v b l o
 open_refused e p = rw e (record { says = sym p; after = tt })
 

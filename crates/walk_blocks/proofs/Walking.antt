@@ -9,7 +9,7 @@ use lib.ListN.{length, get_or, take, length-append}
 use lib.Seq.{length-take-le}
 use borrow.Author.Tests.{lt-ltb, le-ltb, le-leb, lt-leb, eq-eqb, ne_eqb, eqb-true}
 use Rattle.mdf4.specs.Bytes.{little, num, bytes, words}
-use Rattle.mdf4.specs.Act.{Refusal, refusal, Out, ok, err, and_then, Kind, SI, UT, State, Act, choose, pure, stop, sized, seen, elem, visit, once, by_link, ◌>>=◌, ◌>>◌}
+use Rattle.mdf4.specs.Act.{Refusal, refusal, Out, ok, err, and_then, Kind, SI, UT, State, Act, choose, pure, stop, sized, seen, elem, visit, once, ◌>>=◌, ◌>>◌}
 use Rattle.mdf4.specs.Kinds.{shape, block_len, links_nr, no_records, read_block, read_of, make_link}
 use Rattle.mdf4.specs.Walk.{after_reading, enter, addr, link_of, enter_text, walk_text_like, walk_conversion}
 use Rattle.mdf4.proofs.Fuel.{once_seen}
@@ -89,19 +89,19 @@ si_targets o =
     three (take 3 (ws ++ 0 ∷ 0 ∷ 0 ∷ [])) (length-take-le 3 (ws ++ 0 ∷ 0 ∷ 0 ∷ []) (omega (arith, length-append ws (0 ∷ 0 ∷ 0 ∷ []))))
 
 -- three texts
-module _ (a x y z : ℕ) (r : List ℕ) (s : State) where
-  pub texts_first : (e : Refusal) → said (by_link a 0 (walk_text_like x) r s) ≡ err e → said (walk_texts a x y z r s) ≡ err e
+module _ (x y z : ℕ) (r : List ℕ) (s : State) where
+  pub texts_first : (e : Refusal) → said (walk_text_like x r s) ≡ err e → said (walk_texts x y z r s) ≡ err e
   unfolding walk_texts
-  texts_first = first_off (by_link a 0 (walk_text_like x)) (by_link a 1 (walk_text_like y)) (by_link a 2 (walk_text_like z)) r s
+  texts_first = first_off (walk_text_like x) (walk_text_like y) (walk_text_like z) r s
 
-  module _ (s1 : State) (p : said (by_link a 0 (walk_text_like x) r s) ≡ ok s1) where
-    pub texts_second : (e : Refusal) → said (by_link a 1 (walk_text_like y) r s1) ≡ err e → said (walk_texts a x y z r s) ≡ err e
+  module _ (s1 : State) (p : said (walk_text_like x r s) ≡ ok s1) where
+    pub texts_second : (e : Refusal) → said (walk_text_like y r s1) ≡ err e → said (walk_texts x y z r s) ≡ err e
     unfolding walk_texts
-    texts_second = second_off (by_link a 0 (walk_text_like x)) (by_link a 1 (walk_text_like y)) (by_link a 2 (walk_text_like z)) r s s1 p
+    texts_second = second_off (walk_text_like x) (walk_text_like y) (walk_text_like z) r s s1 p
 
-    pub texts_third : (s2 : State) → said (by_link a 1 (walk_text_like y) r s1) ≡ ok s2 → said (walk_texts a x y z r s) ≡ said (by_link a 2 (walk_text_like z) r s2)
+    pub texts_third : (s2 : State) → said (walk_text_like y r s1) ≡ ok s2 → said (walk_texts x y z r s) ≡ said (walk_text_like z r s2)
     unfolding walk_texts
-    texts_third s2 q = ap said (third (by_link a 0 (walk_text_like x)) (by_link a 1 (walk_text_like y)) (by_link a 2 (walk_text_like z)) r s s1 p s2 q)
+    texts_third s2 q = ap said (third (walk_text_like x) (walk_text_like y) (walk_text_like z) r s s1 p s2 q)
 
 -- a source that is not read, and what one that is tells
 pub source_refused : (r : List ℕ) (a : ℕ) (s : State) {e : Refusal} → err e ≡ parsed source_block_of SI r a → said (enter_source a r s) ≡ err e
@@ -128,7 +128,7 @@ source_told r a e =
 
 -- behind its row, its three texts are walked
 source_entered : (a : ℕ) (r : List ℕ) (s : State) (o : List ℕ) (x y z : ℕ) (s' : State)
-    → enter SI a (no_records 0) r s ≡ ok ((o, map (make_link r) (x ∷ y ∷ z ∷ [])), s') → said (enter_source a r s) ≡ said (walk_texts a x y z r s')
+    → enter SI a (no_records 0) r s ≡ ok ((o, map (make_link r) (x ∷ y ∷ z ∷ [])), s') → said (enter_source a r s) ≡ said (walk_texts x y z r s')
 unfolding enter_source ◌>>=◌ and_then addr link_of make_link
 source_entered a r s o x y z s' e = rw e
 
@@ -146,7 +146,7 @@ module _ (r : List ℕ) (a : ℕ) (b : SourceBlock) (t : SourceTold r a b) where
       bind_off (enter SI a (no_records 0)) _ r s e
       (enter_read SI a (no_records 0) r s t.own (b.name_addr ∷ b.path_addr ∷ b.comment_addr ∷ []) t.read t.targets (simple_si.name r _) ∙ q)
 
-  pub source_on : (s s' : State) → source_row s ≡ ok s' → said (enter_source a r s) ≡ said (walk_texts a b.name_addr b.path_addr b.comment_addr r s')
+  pub source_on : (s s' : State) → source_row s ≡ ok s' → said (enter_source a r s) ≡ said (walk_texts b.name_addr b.path_addr b.comment_addr r s')
   source_on s s' q =
       source_entered a r s t.own b.name_addr b.path_addr b.comment_addr s'
       (enter_told SI a (no_records 0) r s t.own (b.name_addr ∷ b.path_addr ∷ b.comment_addr ∷ []) t.read t.targets (simple_si.name r _) s' q)

@@ -1,7 +1,7 @@
 -- What the functions for data blocks and data lists are told.
 use Rattle.std.specs.Prelude.{◌≡◌, List, [], map, ◌⊎◌, ℕ, zero, suc, ◌+◌, ◌*◌, ◌≤◌, length, drop}
 use Rattle.mdf4.specs.Bytes.{words}
-use Rattle.mdf4.specs.Act.{Kind, DT, SD, DL, UD, Link, State, Out, ok, err, refusal, Act, choose, pure, stop, ◌>>=◌, once, each_link, seen}
+use Rattle.mdf4.specs.Act.{Kind, DT, SD, DL, UD, Link, State, Out, ok, err, refusal, Act, choose, pure, stop, ◌>>=◌, once, each, seen}
 use Rattle.mdf4.specs.Kinds.{shape, RecordLayout, no_records, records_in, make_link}
 use Rattle.mdf4.specs.Walk.{enter, max_lists, list_too_deep, walk_data_list, walk_data_region}
 use Rattle.blocks.specs.Errors.{numbers}
@@ -24,23 +24,18 @@ pub record Data (k : Kind) (h : RecordLayout) (n s i d : ℕ) : Type 0 where
   pub number : n ≡ (shape k).number
   pub records : (o : List ℕ) → records_in k h o ≡ layout s i d
 
--- a data list that was visited, or its links
-pub data Opening : Type 0 where
-  passed : Opening
-  linked : List Link → Opening
-
 -- a data list is listed and answers its links
-unfoldable pub open_list : ℕ → Act Opening
-open_list a = enter DL a (no_records 0) >>= λ b. pure (linked b.1)
+unfoldable pub open_list : ℕ → Act (List Link)
+open_list a = enter DL a (no_records 0) >>= λ b. pure b.1
 
--- all of a data list but what its links lead to; `depth` lists may still be entered
-unfoldable pub enter_list : ℕ → ℕ → Act Opening
-enter_list zero a = seen a λ b. choose b (pure passed) (stop DL a (refusal 15 a max_lists 0))
-enter_list (suc depth) a = once DL a passed (open_list a)
+-- all of a data list but what its links lead to: no links where it was visited; `depth` lists may still be entered
+unfoldable pub enter_list : ℕ → ℕ → Act (List Link)
+enter_list zero a = seen a λ b. choose b (pure []) (stop DL a (refusal 15 a max_lists 0))
+enter_list (suc depth) a = once DL a [] (open_list a)
 
 -- what the links of the list at a, which has n, lead to from place i on
 unfoldable pub links_from : ℕ → RecordLayout → ℕ → ℕ → ℕ → Act (Unit {0})
-links_from depth h a n i r = each_link a i (walk_data_region depth h) (drop i (map (make_link r) (words r (a + 24) n))) r
+links_from depth h a n i r = each (walk_data_region depth h) (drop i (map (make_link r) (words r (a + 24) n))) r
 
 -- a data list and what its links lead to
 unfoldable pub data_list : ℕ → RecordLayout → ℕ → Act (Unit {0})
@@ -48,9 +43,9 @@ data_list zero h a = list_too_deep a
 data_list (suc depth) h a = walk_data_list (walk_data_region depth h) a
 
 -- what the code's answer says of the list at a of the recording r
-abbrev pub opening : List ℕ → ℕ → Entered → List ℕ → List ℕ → List ℕ → Out (Opening × State)
-opening r a (Seen w) v b l = ok (passed, held w v b l)
-opening r a (DataList w n) v b l = ok (linked (map (make_link r) (words r (a + 24) n)), held w v b l)
+abbrev pub opening : List ℕ → ℕ → Entered → List ℕ → List ℕ → List ℕ → Out (List Link × State)
+opening r a (Seen w) v b l = ok ([], held w v b l)
+opening r a (DataList w n) v b l = ok (map (make_link r) (words r (a + 24) n), held w v b l)
 opening r a (Refused e) v b l = err (numbers e)
 
 -- a list with n links that stand in the recording
@@ -65,7 +60,7 @@ Opened w (DataList w' n) r a v b l = Open w w' r a n v b l
 Opened w (Refused e) r a v b l = Unit {0}
 
 -- an answer x from w on, with the tables v, b and l left: it says what the definition does, o
-pub record Opens (w : Walk) (x : Entered) (r : List ℕ) (a : ℕ) (v b l : List ℕ) (o : Out (Opening × State)) : Type 0 where
+pub record Opens (w : Walk) (x : Entered) (r : List ℕ) (a : ℕ) (v b l : List ℕ) (o : Out (List Link × State)) : Type 0 where
   pub says : opening r a x v b l ≡ o
   pub after : Opened w x r a v b l
 

@@ -15,8 +15,8 @@ use blocks::data_list_block::{DataListBlock, DataListBlockRead};
 use blocks::error::MdfError;
 use byteorder::read_u32;
 use walk_state::{
-    Block, Walk, Walked, check_room, check_target, follow, list_block, make_link, push_link,
-    push_row, row_of, seen, visit,
+    Block, Walk, Walked, check_room, check_target, list_block, make_link, push_link, push_row,
+    row_of, seen, visit,
 };
 
 // Document 01's numbers of the kinds.
@@ -434,13 +434,12 @@ fn walk_data_links(
     while i < count {
         let target = DataListBlock::data_link(file, addr, i as u64);
         let found = make_link(file, target);
-        let led = follow(on, addr, i as u64);
         let r = walk_data_region(
             file,
             visited,
             blocks,
             links,
-            led,
+            on,
             target,
             found,
             record_size,
@@ -497,13 +496,12 @@ fn walk_data_list(
     };
     let next = DataListBlock::data_link(file, addr, 0);
     let found = make_link(file, next);
-    let led = follow(on, addr, 0);
     walk_data_region(
         file,
         visited,
         blocks,
         links,
-        led,
+        on,
         next,
         found,
         record_size,

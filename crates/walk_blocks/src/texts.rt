@@ -1,6 +1,6 @@
 // Texts, sources and conversions: the Rust's `walk_text_like`, `walk_source` and `walk_conversion`.
 ghost use Rattle.std.specs.Prelude.{◌≡◌, List, [], ℕ, ◌+◌, ◌≤◌, length};
-ghost use Rattle.mdf4.specs.Act.{ok, Kind, TX, MD, UT, by_link};
+ghost use Rattle.mdf4.specs.Act.{ok, Kind, TX, MD, UT};
 ghost use Rattle.mdf4.specs.Bytes.{num};
 ghost use Rattle.mdf4.specs.Kinds.{shape, no_records};
 ghost use Rattle.mdf4.specs.Walk as walk;
@@ -14,7 +14,7 @@ use blocks::metadata_block::{MetadataBlock, MetadataBlockRead};
 use blocks::source_block::{SourceBlock, SourceBlockRead};
 use blocks::text_block::{TextBlock, TextBlockRead};
 use byteorder::read_u32;
-use walk_state::{Block, Walk, Walked, follow, list_block, seen, visit};
+use walk_state::{Block, Walk, Walked, list_block, seen, visit};
 
 // Document 01's numbers of the kinds.
 const SI: u64 = 6;
@@ -143,48 +143,29 @@ pub fn walk_text_like(
     enter_text(file, blocks, links, on, addr)
 }
 
-// Follows a link of the block at an offset to a text.
-pub fn follow_text(
-    file: &[u8],
-    visited: &mut [u64],
-    blocks: &mut [u64],
-    links: &mut [u64],
-    w: Walk,
-    block: u64,
-    link: u64,
-    addr: u64,
-) -> Walked
-    requires { Within w visited.old blocks.old links.old }
-    ensures { Met w result visited.new blocks.new links.new (said (by_link block link (walk.walk_text_like addr) file.now (held w visited.old blocks.old links.old))) }
-{
-    let on = follow(w, block, link);
-    walk_text_like(file, visited, blocks, links, on, addr)
-}
-
-// Follows the first three links of the block at an offset to texts.
+// Walks three texts in order.
 fn walk_texts(
     file: &[u8],
     visited: &mut [u64],
     blocks: &mut [u64],
     links: &mut [u64],
     w: Walk,
-    block: u64,
     name: u64,
     path: u64,
     comment: u64,
 ) -> Walked
     requires { Within w visited.old blocks.old links.old }
-    ensures { Met w result visited.new blocks.new links.new (said (walk_texts block name path comment file.now (held w visited.old blocks.old links.old))) }
+    ensures { Met w result visited.new blocks.new links.new (said (walk_texts name path comment file.now (held w visited.old blocks.old links.old))) }
 {
-    let r1 = follow_text(file, visited, blocks, links, w, block, 0, name);
+    let r1 = walk_text_like(file, visited, blocks, links, w, name);
     let Walked::On(w1) = r1 else {
         return r1;
     };
-    let r2 = follow_text(file, visited, blocks, links, w1, block, 1, path);
+    let r2 = walk_text_like(file, visited, blocks, links, w1, path);
     let Walked::On(w2) = r2 else {
         return r2;
     };
-    follow_text(file, visited, blocks, links, w2, block, 2, comment)
+    walk_text_like(file, visited, blocks, links, w2, comment)
 }
 
 // Reads and lists a source, then walks its name, path and comment.
@@ -211,7 +192,7 @@ fn enter_source(
     let Walked::On(on) = r else {
         return r;
     };
-    walk_texts(file, visited, blocks, links, on, addr, name, path, comment)
+    walk_texts(file, visited, blocks, links, on, name, path, comment)
 }
 
 // Walks a source.

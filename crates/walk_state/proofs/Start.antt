@@ -6,16 +6,16 @@ use native.Mathlib.Omega.{arith}
 use lib.ListN.{length, replicate, length-replicate}
 use Rattle.mdf4.specs.Bytes.{concat_map}
 use Rattle.mdf4.specs.Walk.{start}
-use Rattle.mdf4.specs.Answers.{block_row_words, filled}
+use Rattle.mdf4.specs.Answers.{filled}
 use Rattle.walk_state.specs.declared.Walk.{Walk}
 use Rattle.tables.specs.Rows.{table, held_rows, held_links, Used}
 use Rattle.walk_state.specs.Held.{held, Within, Counted}
 
 -- nothing in use
 abbrev pub none : Walk
-none = record { visited = 0; blocks = 0; links = 0; dg = 0; cg = 0; cn = 0; from_block = 0; from_link = 0 }
+none = record { visited = 0; blocks = 0; links = 0; dg = 0; cg = 0; cn = 0 }
 
-pub held_none : (v b l : List ℕ) → held none v b l ≡ start (record { visited = length v; blocks = length b / block_row_words; links = length l / 2 })
+pub held_none : (v b l : List ℕ) → held none v b l ≡ start (record { visited = length v; blocks = length b / 12; links = length l / 2 })
 unfolding held held_rows held_links table start
 held_none v b l = refl
 

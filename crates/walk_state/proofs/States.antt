@@ -10,33 +10,22 @@ use lib.ListN.{length, take, set, length-set, length-append}
 use lib.Seq.{length-take-le, take-suc-set, sets, length-sets}
 use borrow.Author.Tests.{lt-ltb, le-ltb}
 use Rattle.mdf4.specs.Bytes.{bit}
-use Rattle.mdf4.specs.Act.{Kind, Row, Link, State, elem, and_then, check, marked, visit, following}
+use Rattle.mdf4.specs.Act.{Kind, Row, Link, State, elem, and_then, check, marked, visit}
 use Rattle.mdf4.specs.Kinds.{shape, is}
 use Rattle.mdf4.specs.Walk.{push}
-use Rattle.mdf4.specs.Answers.{block_row_words, row_words, link_words}
+use Rattle.mdf4.specs.Answers.{row_words, link_words}
 use Rattle.blocks.specs.declared.error.MdfError.TheVariants.{VisitedFull}
 use Rattle.walk_state.specs.declared.Row as declared
 use Rattle.walk_state.specs.declared.Walk.{Walk}
 use Rattle.walk_state.specs.declared.Walked.TheVariants.{On, Refused}
 use Rattle.tables.specs.Rows.{Used, row_of_words, link_of_words, held_rows, held_links}
-use Rattle.walk_state.specs.Held.{held, said, Within, Met, Stepped, row_told, Listed, with_links, Linked}
+use Rattle.walk_state.specs.Held.{held, said, Within, Met, row_told, Listed, with_links, Linked}
 use Rattle.tables.proofs.Tables.{used_more, row_more, words_more}
 use Rattle.tables.proofs.Words.{row_again, link_again}
 
--- the counts with another link being followed
-abbrev pub led_by : ℕ → ℕ → Walk → Walk
-led_by a n w = record { visited = w.visited; blocks = w.blocks; links = w.links; dg = w.dg; cg = w.cg; cn = w.cn; from_block = a; from_link = n }
-
-pub followed : (w : Walk) (a n : ℕ) (v b l : List ℕ) → Within w v b l → Stepped w (led_by a n w) v b l (following a n (held w v b l))
-unfolding held following
-followed w a n v b l h = record {
-  says = refl;
-  later = record { within = record { visited = h.visited; rows = h.rows; links = h.links; dg = h.dg; cg = h.cg; cn = h.cn }; grew = omega arith };
-}
-
 -- the counts with one offset more
 abbrev pub one_visited : Walk → Walk
-one_visited w = record { visited = w.visited + 1; blocks = w.blocks; links = w.links; dg = w.dg; cg = w.cg; cn = w.cn; from_block = w.from_block; from_link = w.from_link }
+one_visited w = record { visited = w.visited + 1; blocks = w.blocks; links = w.links; dg = w.dg; cg = w.cg; cn = w.cn }
 
 module _ (w : Walk) (v b l : List ℕ) (h : Within w v b l) (k : Kind) (file : List ℕ) (at : ℕ) where
   pub visit_on : w.visited < length v → Met w (On (one_visited w)) (set v w.visited at) b l (said (visit k at file (held w v b l)))
@@ -60,7 +49,7 @@ module _ (w : Walk) (v b l : List ℕ) (h : Within w v b l) (k : Kind) (file : L
       let long : length (take w.visited v) ≡ w.visited = length-take-le w.visited v (omega (arith, h.visited.fits)) in
       record { says = rw (long, le-ltb w.visited (length v) m); after = tt }
 
-row_sized : (x : Row) → length (row_words [] x) ≡ block_row_words
+row_sized : (x : Row) → length (row_words [] x) ≡ 12
 unfolding row_words
 row_sized x = refl
 
@@ -77,8 +66,6 @@ one_listed n w = record {
   dg = w.dg + bit (eqb n 3);
   cg = w.cg + bit (eqb n 4);
   cn = w.cn + bit (eqb n 5);
-  from_block = w.from_block;
-  from_link = w.from_link;
 }
 
 bit_one : (t : Bool) → bit t ≤ 1
@@ -90,26 +77,26 @@ bit_one false = omega arith
 abbrev pub told_words : declared.Row → List ℕ
 told_words r =
     r.offset ∷ r.end ∷ r.size ∷ r.mark ∷ r.kind ∷ r.index ∷ r.first_link ∷ r.link_count ∷ r.record_size ∷ r.invalidation_bytes
-    ∷ r.record_id_len ∷ 0 ∷ r.from_block ∷ r.from_link ∷ []
+    ∷ r.record_id_len ∷ 0 ∷ []
 
 told_again : (k : Kind) (r : declared.Row) → r.kind ≡ (shape k).number → row_words [] (row_told k r) ≡ told_words r
 unfolding row_words row_told elem bit
 told_again k r e = rw e
 
-module _ (w : Walk) (b : List ℕ) (r : declared.Row) (room : w.blocks * block_row_words + block_row_words ≤ length b) (k : Kind) (e : r.kind ≡ (shape k).number) (v l : List ℕ) where
-  row_says : held (one_listed r.kind w) v (sets b (w.blocks * block_row_words) (told_words r)) l ≡ push k (row_told k r) [] (held w v b l)
+module _ (w : Walk) (b : List ℕ) (r : declared.Row) (room : w.blocks * 12 + 12 ≤ length b) (k : Kind) (e : r.kind ≡ (shape k).number) (v l : List ℕ) where
+  row_says : held (one_listed r.kind w) v (sets b (w.blocks * 12) (told_words r)) l ≡ push k (row_told k r) [] (held w v b l)
   unfolding held held_rows push is shape
   row_says =
       let n : ℕ = w.blocks in
-      let m : held_rows (n + 1) (sets b (n * block_row_words) (told_words r)) ≡ held_rows n b ++ row_told k r ∷ [] =
-      ap (λ (ws : List ℕ). held_rows (n + 1) (sets b (n * block_row_words) ws)) (sym (told_again k r e))
-      ∙ row_more block_row_words row_of_words (row_words []) row_sized (row_again []) n b (row_told k r) room in
-      rw (m, length-sets b (n * block_row_words) (told_words r), append-nil, e)
+      let m : held_rows (n + 1) (sets b (n * 12) (told_words r)) ≡ held_rows n b ++ row_told k r ∷ [] =
+      ap (λ (ws : List ℕ). held_rows (n + 1) (sets b (n * 12) ws)) (sym (told_again k r e))
+      ∙ row_more 12 row_of_words (row_words []) row_sized (row_again []) n b (row_told k r) room in
+      rw (m, length-sets b (n * 12) (told_words r), append-nil, e)
 
-  row_within : Within w v b l → Within (one_listed r.kind w) v (sets b (w.blocks * block_row_words) (told_words r)) l
+  row_within : Within w v b l → Within (one_listed r.kind w) v (sets b (w.blocks * 12) (told_words r)) l
   unfolding held_rows
   row_within h =
-      let m = words_more block_row_words row_of_words (row_words []) row_sized (row_again []) w.blocks b (row_told k r) room h.rows in
+      let m = words_more 12 row_of_words (row_words []) row_sized (row_again []) w.blocks b (row_told k r) room h.rows in
       record {
         visited = h.visited;
         rows = rw (told_again k r e) at m;
@@ -119,7 +106,7 @@ module _ (w : Walk) (b : List ℕ) (r : declared.Row) (room : w.blocks * block_r
         cn = omega (arith, h.cn, bit_one (eqb r.kind 5));
       }
 
-pub row_pushed : (w : Walk) (b : List ℕ) (r : declared.Row) → w.blocks * block_row_words + block_row_words ≤ length b → Listed w (one_listed r.kind w) r b (sets b (w.blocks * block_row_words) (told_words r))
+pub row_pushed : (w : Walk) (b : List ℕ) (r : declared.Row) → w.blocks * 12 + 12 ≤ length b → Listed w (one_listed r.kind w) r b (sets b (w.blocks * 12) (told_words r))
 row_pushed w b r room = record {
   links = refl;
   after = λ k v l e h. record { says = row_says w b r room k e v l; later = record { within = row_within w b r room k e v l h; grew = omega arith } };
@@ -127,7 +114,7 @@ row_pushed w b r room = record {
 
 -- the counts with n links more
 abbrev pub more_linked : ℕ → Walk → Walk
-more_linked n w = record { visited = w.visited; blocks = w.blocks; links = w.links + n; dg = w.dg; cg = w.cg; cn = w.cn; from_block = w.from_block; from_link = w.from_link }
+more_linked n w = record { visited = w.visited; blocks = w.blocks; links = w.links + n; dg = w.dg; cg = w.cg; cn = w.cn }
 
 pub link_pushed : (w : Walk) (l : List ℕ) (x : Link) → w.links * 2 + 2 ≤ length l
     → Linked w (more_linked 1 w) (x ∷ []) l (sets l (w.links * 2) (x.target ∷ x.found ∷ []))

@@ -1,15 +1,15 @@
 -- Laws by which a walk function's proof puts together what its callees ensure. Assumes nothing.
-use mathlib.Core.Path.{◌≡◌, sym, ap, ◌∙◌}
+use mathlib.Core.Path.{◌≡◌, sym, ◌∙◌}
 use mathlib.Core.List.{List}
 use Prim.Native.Nat.{ℕ, ◌≤◌}
 use native.Mathlib.Omega.{arith}
-use Rattle.mdf4.specs.Act.{Out, ok, err, State, Act, following, by_link}
+use Rattle.mdf4.specs.Act.{Out, ok, err, State}
 use Rattle.blocks.specs.Errors.{numbers}
 use Rattle.blocks.specs.declared.error.MdfError.{MdfError}
 use Rattle.walk_state.specs.declared.Walk.{Walk}
 use Rattle.walk_state.specs.declared.Walked.{Walked}
 use Rattle.walk_state.specs.declared.Walked.TheVariants.{On, Refused}
-use Rattle.walk_state.specs.Held.{held, said, Within, After, Met, Stepped}
+use Rattle.walk_state.specs.Held.{held, Within, After, Met}
 
 after_from : (w w1 : Walk) (v b l : List ℕ) (r : Walked) → w.visited ≤ w1.visited → After w1 r v b l → After w r v b l
 after_from w w1 v b l (On w2) h a = record { within = a.within; grew = omega (arith, a.grew) }
@@ -38,9 +38,3 @@ module _ {w : Walk} {v b l : List ℕ} {o : Out State} where
 
   pub last : {w1 : Walk} {r : Walked} {o1 : Out State} → Met w1 r v b l o1 → w.visited ≤ w1.visited → o ≡ o1 → Met w r v b l o
   last {w1} {r} m h p = record { says = m.says ∙ sym p; after = after_from w w1 v b l r h m.after }
-
--- a callee that is handed the state in which a link is followed
-pub by_follow : {A : Type 0} (m : Act A) (a n : ℕ) (r : List ℕ) {w w1 : Walk} {x : Walked} {v b l v' b' l' : List ℕ}
-    → Stepped w w1 v b l (following a n (held w v b l)) → Met w1 x v' b' l' (said (m r (held w1 v b l))) → Met w x v' b' l' (said (by_link a n m r (held w v b l)))
-unfolding by_link
-by_follow m a n r s e = last e s.later.grew (ap (λ (t : State). said (m r t)) (sym s.says))

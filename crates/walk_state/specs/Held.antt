@@ -21,8 +21,6 @@ held w v b l = record {
   dg_counter = w.dg;
   cg_counter = w.cg;
   cn_counter = w.cn;
-  from_block = w.from_block;
-  from_link = w.from_link;
   lent = record { visited = length v; blocks = length b / block_row_words; links = length l / pair_words };
 }
 
@@ -88,8 +86,6 @@ row_told k r = record {
   record_size = r.record_size;
   invalidation_bytes = r.invalidation_bytes;
   record_id_len = r.record_id_len;
-  from_block = r.from_block;
-  from_link = r.from_link;
 }
 
 -- there is room for a row, and no counter is past the rows
@@ -114,8 +110,6 @@ with_links ls s = record {
   dg_counter = s.dg_counter;
   cg_counter = s.cg_counter;
   cn_counter = s.cn_counter;
-  from_block = s.from_block;
-  from_link = s.from_link;
   lent = s.lent;
 }
 
@@ -145,8 +139,6 @@ row_made w x n = record {
   record_size = x.record_size;
   invalidation_bytes = x.invalidation_bytes;
   record_id_len = x.record_id_len;
-  from_block = w.from_block;
-  from_link = w.from_link;
 }
 
 -- x and the link targets ts are what the own bytes o of a block of the kind k tell, with the record layout h handed down; and

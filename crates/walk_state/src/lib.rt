@@ -8,7 +8,7 @@ ghost use Rattle.mdf4.specs.Kinds as kinds;
 ghost use Rattle.mdf4.specs.Walk as walk;
 ghost use Rattle.mdf4.specs.Answers.{pair_words};
 ghost use Rattle.mdf4.specs.Bytes.{bit};
-ghost use Rattle.walk_state.specs.Held.{held, said, state_of, checked, Within, Met, Stepped, RowFits, Listed, Linked, room_for, row_made, Tells, Counted};
+ghost use Rattle.walk_state.specs.Held.{held, said, state_of, checked, Within, Met, RowFits, Listed, Linked, room_for, row_made, Tells, Counted};
 
 use blocks::common::wide;
 use blocks::error::MdfError;
@@ -22,8 +22,8 @@ const CG: u64 = 4;
 
 const CN: u64 = 5;
 
-// The rows in use of each table, the next index of each kind that counts, and the link that is being followed.
-#[derive(Drop)]
+// The rows in use of each table, and the next index of each kind that counts.
+#[derive(Clone, Copy)]
 pub struct Walk {
     pub visited: usize,
     pub blocks: usize,
@@ -31,8 +31,6 @@ pub struct Walk {
     pub dg: u64,
     pub cg: u64,
     pub cn: u64,
-    pub from_block: u64,
-    pub from_link: u64,
 }
 
 #[derive(Drop)]
@@ -41,7 +39,7 @@ pub enum Walked {
     Refused(MdfError),
 }
 
-// A row of the block table; its tree mark is 0.
+// A row of the block table; its last word, the tree mark, is 0.
 #[derive(Drop)]
 pub struct Row {
     pub offset: u64,
@@ -55,12 +53,10 @@ pub struct Row {
     pub record_size: u64,
     pub invalidation_bytes: u64,
     pub record_id_len: u64,
-    pub from_block: u64,
-    pub from_link: u64,
 }
 
 // What a row takes from its block.
-#[derive(Drop)]
+#[derive(Clone, Copy)]
 pub struct Block {
     pub offset: u64,
     pub size: u64,
@@ -105,16 +101,6 @@ pub fn visit(visited: &mut [u64], w: Walk, at: u64) -> Walked
     })
 }
 
-// Follows the link at a place of the block at an offset.
-pub fn follow(w: Walk, block: u64, link: u64) -> Walk
-    ensures { (v b l : List ℕ) → Within w v b l → Stepped w result v b l (spec.following block link (held w v b l)) }
-{
-    let mut next = w;
-    next.from_block = block;
-    next.from_link = link;
-    next
-}
-
 // Stores words from a place on.
 fn store(table: &mut [u64], at: usize, words: &[u64])
     requires { at + length words.now ≤ length table.old }
@@ -156,8 +142,6 @@ pub fn push_row(blocks: &mut [u64], w: Walk, row: Row) -> Walk
         row.invalidation_bytes,
         row.record_id_len,
         0,
-        row.from_block,
-        row.from_link,
     ];
     let n = w.blocks;
     store(blocks, n * BLOCK_ROW_WORDS, &words);
@@ -309,8 +293,6 @@ pub fn row_of(w: Walk, block: Block, count: usize) -> Row
         record_size: block.record_size,
         invalidation_bytes: block.invalidation_bytes,
         record_id_len: block.record_id_len,
-        from_block: w.from_block,
-        from_link: w.from_link,
     }
 }
 

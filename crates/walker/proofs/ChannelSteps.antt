@@ -6,7 +6,7 @@ use Prim.Native.Nat.{ℕ}
 use lib.ListN.{length}
 use borrow.Author.Tests.{eq-eqb, ne_eqb}
 use Rattle.mdf4.specs.Bytes.{little, num, words}
-use Rattle.mdf4.specs.Act.{Refusal, Out, ok, err, and_then, CN, State, choose, pure, elem, visit, reason, by_link, ◌>>=◌, ◌>>◌}
+use Rattle.mdf4.specs.Act.{Refusal, ok, err, and_then, CN, State, choose, pure, elem, visit, reason, ◌>>=◌, ◌>>◌}
 use Rattle.mdf4.specs.Kinds.{shape, is, mark_in, no_records, records_in, read_block, make_link, name_link, name_head, name_check, name_ok}
 use Rattle.mdf4.specs.Walk.{content_ok, after_reading, enter, addr, link_of, walk_data_region, walk_channel}
 use Rattle.mdf4.proofs.Fuel.{once_seen}
@@ -31,7 +31,7 @@ use Rattle.walker.specs.declared.channels.Opened.{Opened}
 use Rattle.walker.specs.declared.channels.Opened.TheVariants.{Channel, Refused as Unopened}
 use Rattle.walker.specs.Channels.{channel_source, channel_texts, channel_data, enter_channel, Entered, Open, Opens, to_opened}
 use Rattle.walker.proofs.Chaining.{reason_off}
-use Rattle.walker.proofs.Nexts.{link_is, with_answer, led_on, answered}
+use Rattle.walker.proofs.Nexts.{link_is, with_answer, answered}
 
 -- the targets of a channel's links
 abbrev pub targets_of : ChannelBlock → List ℕ
@@ -115,13 +115,13 @@ module _ (r : List ℕ) (a : ℕ) (o : List ℕ) (x : ChannelBlock) (e : channel
     channel_opens s d (walked.Refused z) m = record { is = unlisted CN a (no_records 0) r s o q (named d) _ (sym m.says) }
 
 -- its own data
-module _ (a : ℕ) (x : ChannelBlock) (r : List ℕ) (s : State) where
-  pub data_none : (x.channel_type ≡ 1 → ⊥) → said (channel_data a x r s) ≡ ok s
+module _ (x : ChannelBlock) (r : List ℕ) (s : State) where
+  pub data_none : (x.channel_type ≡ 1 → ⊥) → said (channel_data x r s) ≡ ok s
   unfolding channel_data choose pure
   data_none h = rw (ne_eqb x.channel_type 1 h)
 
   pub data_some : x.channel_type ≡ 1 → (f : ℕ) → f ≡ (make_link r x.data_addr).found
-      → said (channel_data a x r s) ≡ said (by_link a 5 (walk_data_region 512 (layout 0 0 0) (record { target = x.data_addr; found = f })) r s)
+      → said (channel_data x r s) ≡ said (walk_data_region 512 (layout 0 0 0) (record { target = x.data_addr; found = f }) r s)
   unfolding channel_data choose
   data_some h f e = rw (eq-eqb x.channel_type 1 h, link_is r x.data_addr f e)
 
@@ -134,24 +134,24 @@ module _ (a : ℕ) (r : List ℕ) (s : State) where
   -- behind its row
   entered : (o : List ℕ) (s' : State) → enter CN a (no_records 0) r s ≡ ok ((o, map (make_link r) ((shape CN).targets o)), s')
       → enter_channel a r s
-      ≡ (channel_texts a (channel_block_of o) >> channel_data a (channel_block_of o) >> by_link a 0 (pure ((channel_block_of o).next_ch_addr, tt))) r s'
+      ≡ (channel_texts a (channel_block_of o) >> channel_data (channel_block_of o) >> pure ((channel_block_of o).next_ch_addr, tt)) r s'
   unfolding enter_channel channel_texts channel_source channel_data ◌>>=◌ ◌>>◌ and_then addr link_of make_link shape words channel_block_of choose
   entered o s' e = rw e
 
   pub enter_on : (x : ChannelBlock) (s' : State) → Entered r a x s s'
-      → enter_channel a r s ≡ (channel_texts a x >> channel_data a x >> by_link a 0 (pure (x.next_ch_addr, tt))) r s'
+      → enter_channel a r s ≡ (channel_texts a x >> channel_data x >> pure (x.next_ch_addr, tt)) r s'
   enter_on x s' t = rw (← t.fields) (entered t.own s' t.says)
 
   module _ (x : ChannelBlock) (s1 : State) (t : Entered r a x s s1) where
     pub texts_off : (e : Refusal) → said (channel_texts a x r s1) ≡ err e → reason (enter_channel a r s) ≡ err e
     texts_off e q =
-        reason_off (enter_channel a r s) e (ap said (enter_on x s1 t) ∙ first_off (channel_texts a x) (channel_data a x) (by_link a 0 (pure (x.next_ch_addr, tt))) r s1 e q)
+        reason_off (enter_channel a r s) e (ap said (enter_on x s1 t) ∙ first_off (channel_texts a x) (channel_data x) (pure (x.next_ch_addr, tt)) r s1 e q)
 
     pub data_last : (s2 : State) → said (channel_texts a x r s1) ≡ ok s2 → (n : ℕ) → n ≡ x.next_ch_addr
-        → reason (enter_channel a r s) ≡ with_answer (n, tt) (led_on a (said (channel_data a x r s2)))
+        → reason (enter_channel a r s) ≡ with_answer (n, tt) (said (channel_data x r s2))
     data_last s2 p n e =
-        let d = ap said (then_on (channel_texts a x) (channel_data a x) r s1 s2 p) in
-        rw e (ap reason (enter_on x s1 t) ∙ answered a (channel_texts a x >> channel_data a x) _ r s1 ∙ ap (λ (o : Out State). with_answer (x.next_ch_addr, tt) (led_on a o)) d)
+        let d = ap said (then_on (channel_texts a x) (channel_data x) r s1 s2 p) in
+        rw e (ap reason (enter_on x s1 t) ∙ answered (channel_texts a x >> channel_data x) _ r s1 ∙ ap (with_answer _) d)
 
 -- what the answer of `open_channel` tells
 module _ {w : Walk} {x : Opened} {r : List ℕ} {a : ℕ} {v b l : List ℕ} {s : State} where

@@ -4,7 +4,7 @@ use mathlib.Core.Bool.{true, false}
 use mathlib.Core.List.{List, [], ◌∷◌, map}
 use Prim.Native.Nat.{ℕ}
 use Rattle.mdf4.specs.Bytes.{little, num, words}
-use Rattle.mdf4.specs.Act.{Refusal, Result, Stop, Out, ok, err, and_then, DG, State, Act, reason, chain, elem, pure, visit, once, by_link, ◌>>=◌, ◌>>◌}
+use Rattle.mdf4.specs.Act.{Refusal, Result, Stop, Out, ok, err, and_then, DG, State, Act, reason, chain, elem, pure, visit, once, ◌>>=◌, ◌>>◌}
 use Rattle.mdf4.specs.Kinds.{shape, is, block_len, mark_in, RecordLayout, no_records, records_in, read_block, make_link, name_ok}
 use Rattle.mdf4.specs.Walk.{Handed, content_ok, after_reading, enter, addr, link_of, max_lists, walk_text_like, walk_channel_group, walk_data_region, walk_data_group}
 use Rattle.mdf4.proofs.Fuel.{once_seen}
@@ -27,7 +27,7 @@ use Rattle.walker.specs.declared.groups.ChannelGroups.TheVariants as groups
 use Rattle.walker.specs.Groups.{handed, GroupsMet}
 use Rattle.walker.specs.DataGroups.{data_group_links, enter_data_group}
 use Rattle.walker.proofs.Chaining.{reason_off}
-use Rattle.walker.proofs.Nexts.{link_is, with_answer, led_on, answered}
+use Rattle.walker.proofs.Nexts.{link_is, with_answer, answered}
 
 -- the channel groups of a data group that go on, and ones that refuse
 pub record GroupsOn (w w1 : Walk) (h : RecordLayout) (v b l : List ℕ) (o : Result Stop (Handed × State)) : Type 0 where
@@ -53,26 +53,26 @@ handed_on f r (ok p) h s q = let e = ok_both p.0.1 h p.1 s q in rw (e.0, e.1)
 handed_on f r (err x) h s q = never (sym q)
 
 -- what a data group's links lead to
-module _ (a fuel n comment first t : ℕ) (r : List ℕ) (s : State) where
+module _ (fuel n comment first t : ℕ) (r : List ℕ) (s : State) where
   abbrev groups_chain : Act Handed
-  groups_chain = by_link a 1 (chain fuel (walk_channel_group fuel n) first (false, no_records n))
+  groups_chain = chain fuel (walk_channel_group fuel n) first (false, no_records n)
 
-  pub links_first : (e : Refusal) → said (by_link a 3 (walk_text_like comment) r s) ≡ err e → said (data_group_links a fuel n comment first (make_link r t) r s) ≡ err e
+  pub links_first : (e : Refusal) → said (walk_text_like comment r s) ≡ err e → said (data_group_links fuel n comment first (make_link r t) r s) ≡ err e
   unfolding data_group_links
-  links_first e q = bind_off (by_link a 3 (walk_text_like comment) >> groups_chain) _ r s e (then_off (by_link a 3 (walk_text_like comment)) groups_chain r s e q)
+  links_first e q = bind_off (walk_text_like comment >> groups_chain) _ r s e (then_off (walk_text_like comment) groups_chain r s e q)
 
-  module _ (s1 : State) (p : said (by_link a 3 (walk_text_like comment) r s) ≡ ok s1) where
-    pub links_second : (e : Refusal) → handed (groups_chain r s1) ≡ err e → said (data_group_links a fuel n comment first (make_link r t) r s) ≡ err e
+  module _ (s1 : State) (p : said (walk_text_like comment r s) ≡ ok s1) where
+    pub links_second : (e : Refusal) → handed (groups_chain r s1) ≡ err e → said (data_group_links fuel n comment first (make_link r t) r s) ≡ err e
     unfolding data_group_links
     links_second e q =
-        bind_off (by_link a 3 (walk_text_like comment) >> groups_chain) _ r s e (ap said (then_on (by_link a 3 (walk_text_like comment)) groups_chain r s s1 p) ∙ handed_off (groups_chain r s1) e q)
+        bind_off (walk_text_like comment >> groups_chain) _ r s e (ap said (then_on (walk_text_like comment) groups_chain r s s1 p) ∙ handed_off (groups_chain r s1) e q)
 
     pub links_third : (h : RecordLayout) (s2 : State) → handed (groups_chain r s1) ≡ ok (h, s2) → (f : ℕ) → f ≡ (make_link r t).found
-        → said (data_group_links a fuel n comment first (make_link r t) r s) ≡ said (by_link a 2 (walk_data_region max_lists h (record { target = t; found = f })) r s2)
+        → said (data_group_links fuel n comment first (make_link r t) r s) ≡ said (walk_data_region max_lists h (record { target = t; found = f }) r s2)
     unfolding data_group_links ◌>>=◌
     links_third h s2 q f g =
-        rw (then_on (by_link a 3 (walk_text_like comment)) groups_chain r s s1 p, ← (link_is r t f g))
-        (handed_on (λ h. by_link a 2 (walk_data_region max_lists h (make_link r t))) r (groups_chain r s1) h s2 q)
+        rw (then_on (walk_text_like comment) groups_chain r s s1 p, ← (link_is r t f g))
+        (handed_on (λ h. walk_data_region max_lists h (make_link r t)) r (groups_chain r s1) h s2 q)
 
 -- a data group that is not read, and what one that is tells
 pub group_refused : (fuel a : ℕ) (r : List ℕ) (s : State) {e : Refusal} → err e ≡ parsed data_group_block_of DG r a → reason (enter_data_group fuel a r s) ≡ err e
@@ -114,7 +114,7 @@ dg_mark r a o e = sym (mark_tested DG r a o refl e)
 -- behind its row, what its links lead to is walked
 group_entered : (fuel a : ℕ) (r : List ℕ) (s : State) (o : List ℕ) (x y z u : ℕ) (s' : State)
     → enter DG a (no_records 0) r s ≡ ok ((o, map (make_link r) (x ∷ y ∷ z ∷ u ∷ [])), s')
-    → enter_data_group fuel a r s ≡ (data_group_links a fuel (num o 56 1) u y (make_link r z) >> by_link a 0 (pure (x, tt))) r s'
+    → enter_data_group fuel a r s ≡ (data_group_links fuel (num o 56 1) u y (make_link r z) >> pure (x, tt)) r s'
 unfolding enter_data_group ◌>>=◌ and_then addr link_of make_link
 group_entered fuel a r s o x y z u s' e = rw e
 
@@ -128,7 +128,7 @@ module _ (r : List ℕ) (a : ℕ) (b : DataGroupBlock) (t : GroupTold r a b) whe
 
   -- and of what its links lead to
   abbrev pub group_parts : ℕ → State → Out State
-  group_parts fuel s = said (data_group_links a fuel b.record_id_len b.comment_addr b.first_cg_addr (make_link r b.data_block_addr) r s)
+  group_parts fuel s = said (data_group_links fuel b.record_id_len b.comment_addr b.first_cg_addr (make_link r b.data_block_addr) r s)
 
   pub group_off : (fuel : ℕ) (s : State) (e : Refusal) → group_row s ≡ err e → reason (enter_data_group fuel a r s) ≡ err e
   unfolding enter_data_group
@@ -140,15 +140,15 @@ module _ (r : List ℕ) (a : ℕ) (b : DataGroupBlock) (t : GroupTold r a b) whe
   -- its row, then what its links lead to, then the next address
   group_on : (fuel : ℕ) (s s' : State) → group_row s ≡ ok s'
       → enter_data_group fuel a r s
-      ≡ (data_group_links a fuel b.record_id_len b.comment_addr b.first_cg_addr (make_link r b.data_block_addr) >> by_link a 0 (pure (b.next_dg_addr, tt))) r s'
+      ≡ (data_group_links fuel b.record_id_len b.comment_addr b.first_cg_addr (make_link r b.data_block_addr) >> pure (b.next_dg_addr, tt)) r s'
   group_on fuel s s' q =
       rw t.id_len
       (group_entered fuel a r s t.own _ _ _ _ s'
       (enter_told DG a (no_records 0) r s t.own (group_targets b) t.read t.targets (simple_dg.name r _) s' q))
 
   pub group_last : (fuel : ℕ) (s s' : State) → group_row s ≡ ok s' → (n : ℕ) → n ≡ b.next_dg_addr
-      → reason (enter_data_group fuel a r s) ≡ with_answer (n, tt) (led_on a (group_parts fuel s'))
-  group_last fuel s s' q n e = rw e (ap reason (group_on fuel s s' q) ∙ answered a _ _ r s')
+      → reason (enter_data_group fuel a r s) ≡ with_answer (n, tt) (group_parts fuel s')
+  group_last fuel s s' q n e = rw e (ap reason (group_on fuel s s' q) ∙ answered _ _ r s')
 
 -- the definition's steps in a row, bracketed as the code has them
 assoc : {A B C : Type 0} (m : Result Stop A) (f : A → Result Stop B) (g : B → Result Stop C) → and_then m (λ p. and_then (f p) g) ≡ and_then (and_then m f) g
@@ -164,10 +164,10 @@ then_same (err x) f g h = refl
 -- what is left once its offset is marked, as the definition has it
 abbrev group_body : ℕ → ℕ → Act (ℕ × Unit {0})
 group_body fuel a = enter DG a (no_records 0) >>= λ b.
-    by_link a 3 (walk_text_like (addr b 3))
-    >> by_link a 1 (chain fuel (walk_channel_group fuel (num b.0 56 1)) (addr b 1) (false, no_records (num b.0 56 1)))
-    >>= λ got. by_link a 2 (walk_data_region max_lists got.1 (link_of b 2))
-    >> by_link a 0 (pure (addr b 0, tt))
+    walk_text_like (addr b 3)
+    >> chain fuel (walk_channel_group fuel (num b.0 56 1)) (addr b 1) (false, no_records (num b.0 56 1))
+    >>= λ got. walk_data_region max_lists got.1 (link_of b 2)
+    >> pure (addr b 0, tt)
 
 body_same : (fuel a : ℕ) (r : List ℕ) (s : State) → group_body fuel a r s ≡ enter_data_group fuel a r s
 unfolding enter_data_group data_group_links ◌>>=◌ ◌>>◌

@@ -7,7 +7,7 @@ use native.Mathlib.Omega.{arith}
 use lib.ListN.{length}
 use borrow.Author.Tests.{le-leb, lt-leb}
 use Rattle.mdf4.specs.Bytes.{little, num, words}
-use Rattle.mdf4.specs.Act.{Refusal, Result, Stop, Out, ok, err, and_then, CG, State, Act, pure, ◌>>=◌, ◌>>◌, elem, visit, reason, chain, by_link, following}
+use Rattle.mdf4.specs.Act.{Refusal, Result, Stop, Out, ok, err, and_then, CG, State, Act, pure, ◌>>=◌, ◌>>◌, elem, visit, reason, chain}
 use Rattle.mdf4.specs.Kinds.{shape, is, mark_in, RecordLayout, no_records, cg_records, records_in, read_block, links_nr, make_link, name_ok}
 use Rattle.mdf4.specs.Walk.{Handed, hand_down, content_ok, after_reading, enter, addr, link_of, walk_text_like, walk_source, walk_channel, walk_channel_group}
 use Rattle.mdf4.proofs.Fuel.{once_seen}
@@ -21,8 +21,7 @@ use Rattle.blocks.proofs.Parse.{parsed_ok}
 use Rattle.walk_state.specs.declared.Walk.{Walk}
 use Rattle.walk_state.specs.declared.Walked.{Walked}
 use Rattle.walk_state.specs.declared.Walked.TheVariants as walked
-use Rattle.walk_state.specs.Held.{held, said, state_of, Within, Tells, Met, Stepped}
-use Rattle.walk_state.proofs.States.{followed}
+use Rattle.walk_state.specs.Held.{held, said, state_of, Within, Tells, Met}
 use Rattle.walk_blocks.specs.Regions.{layout}
 use Rattle.walk_blocks.proofs.Calls.{parsed_err}
 use Rattle.walk_blocks.proofs.Entering.{once_on, once_off, enter_refused, then_on, then_off, first_off, second_off, third, bind_off}
@@ -30,12 +29,11 @@ use Rattle.walk_blocks.proofs.Reading.{mark_own, enter_read, enter_told}
 use Rattle.walk_blocks.proofs.Walking.{mark_tested}
 use Rattle.walker.specs.declared.groups.Grouped.{Grouped}
 use Rattle.walker.specs.declared.groups.Grouped.TheVariants as grouped
-use Rattle.walker.specs.declared.groups.ChannelGroups.{ChannelGroups}
 use Rattle.walker.specs.declared.groups.ChannelGroups.TheVariants as groups
 use Rattle.walker.specs.Chains.{GroupedAfter, GroupedMet, to_grouped}
-use Rattle.walker.specs.Groups.{GroupRead, channel_group_links, enter_channel_group, handed, GroupsMet, GroupsAfter}
+use Rattle.walker.specs.Groups.{GroupRead, channel_group_links, enter_channel_group, handed, GroupsMet}
 use Rattle.walker.proofs.Chaining.{Step, Goes, Refuses, reason_off}
-use Rattle.walker.proofs.Nexts.{with_answer, led_on, answered}
+use Rattle.walker.proofs.Nexts.{with_answer, answered}
 
 -- a channel group that was parsed
 pub group_read : (r : List ℕ) (a : ℕ) {g : ChannelGroupBlock} → ok g ≡ parsed channel_group_block_of CG r a → (o : List ℕ) × GroupRead r a g o
@@ -104,7 +102,7 @@ module _ (r : List ℕ) (a : ℕ) (g : ChannelGroupBlock) (o : List ℕ) (t : Gr
 links_walked : (fuel n a : ℕ) (got : Handed) (r : List ℕ) (s : State) (o : List ℕ) (s' : State)
     → enter CG a (no_records n) r s ≡ ok ((o, map (make_link r) ((shape CG).targets o)), s')
     → enter_channel_group fuel n a got r s
-    ≡ (channel_group_links a fuel (num o 40 8) (num o 48 8) (num o 64 8) (num o 32 8) >> by_link a 0 (pure (num o 24 8, hand_down (cg_records n o) got))) r s'
+    ≡ (channel_group_links fuel (num o 40 8) (num o 48 8) (num o 64 8) (num o 32 8) >> pure (num o 24 8, hand_down (cg_records n o) got)) r s'
 unfolding enter_channel_group ◌>>=◌ and_then addr link_of make_link shape words
 links_walked fuel n a got r s o s' e = rw e
 
@@ -124,10 +122,10 @@ module _ (fuel n a : ℕ) (got : Handed) (r : List ℕ) (s : State) where
       → (size bytes : ℕ) → size ≡ n + g.samples_byte_nr + g.invalidation_bytes_nr → bytes ≡ g.invalidation_bytes_nr
       → reason (enter_channel_group fuel n a got r s)
       ≡ with_answer (g.next_cg_addr, hand_down (layout size bytes n) got)
-      (led_on a (said (channel_group_links a fuel g.acq_name_addr g.acq_source_addr g.comment_addr g.first_ch_addr r s')))
+      (said (channel_group_links fuel g.acq_name_addr g.acq_source_addr g.comment_addr g.first_ch_addr r s'))
   unfolding channel_group_block_of cg_records
   group_last g o t s' p size bytes es eb =
-      rw (es, eb, ← t.fields) (ap reason (links_walked fuel n a got r s o s' (entered r a g o t n s s' p)) ∙ answered a _ _ r s')
+      rw (es, eb, ← t.fields) (ap reason (links_walked fuel n a got r s o s' (entered r a g o t n s s' p)) ∙ answered _ _ r s')
 
   -- its offset was visited, or is marked
   pub group_seen : elem a s.visited ≡ true → reason (walk_channel_group fuel n a got r s) ≡ ok ((0, hand_down (layout 0 0 n) got), s)
@@ -145,31 +143,31 @@ module _ (fuel n a : ℕ) (got : Handed) (r : List ℕ) (s : State) where
     group_marked s' q = ap reason (once_on CG a _ _ r s i s' q)
 
 -- what its links lead to, in order
-module _ (a fuel x y z c : ℕ) (r : List ℕ) (s : State) where
+module _ (fuel x y z c : ℕ) (r : List ℕ) (s : State) where
   abbrev texts : Act (Unit {0})
-  texts = by_link a 2 (walk_text_like x) >> by_link a 3 (walk_source y) >> by_link a 5 (walk_text_like z)
+  texts = walk_text_like x >> walk_source y >> walk_text_like z
 
-  pub links_first : {e : Refusal} → said (by_link a 2 (walk_text_like x) r s) ≡ err e → said (channel_group_links a fuel x y z c r s) ≡ err e
+  pub links_first : {e : Refusal} → said (walk_text_like x r s) ≡ err e → said (channel_group_links fuel x y z c r s) ≡ err e
   unfolding channel_group_links
   links_first {e} p =
-      then_off texts (by_link a 1 (chain fuel walk_channel c tt)) r s e (first_off (by_link a 2 (walk_text_like x)) (by_link a 3 (walk_source y)) (by_link a 5 (walk_text_like z)) r s e p)
+      then_off texts (chain fuel walk_channel c tt) r s e (first_off (walk_text_like x) (walk_source y) (walk_text_like z) r s e p)
 
-  module _ (s1 : State) (p : said (by_link a 2 (walk_text_like x) r s) ≡ ok s1) where
-    pub links_second : {e : Refusal} → said (by_link a 3 (walk_source y) r s1) ≡ err e → said (channel_group_links a fuel x y z c r s) ≡ err e
+  module _ (s1 : State) (p : said (walk_text_like x r s) ≡ ok s1) where
+    pub links_second : {e : Refusal} → said (walk_source y r s1) ≡ err e → said (channel_group_links fuel x y z c r s) ≡ err e
     unfolding channel_group_links
     links_second {e} q =
-        then_off texts (by_link a 1 (chain fuel walk_channel c tt)) r s e (second_off (by_link a 2 (walk_text_like x)) (by_link a 3 (walk_source y)) (by_link a 5 (walk_text_like z)) r s s1 p e q)
+        then_off texts (chain fuel walk_channel c tt) r s e (second_off (walk_text_like x) (walk_source y) (walk_text_like z) r s s1 p e q)
 
-    module _ (s2 : State) (q : said (by_link a 3 (walk_source y) r s1) ≡ ok s2) where
-      pub links_third : {e : Refusal} → said (by_link a 5 (walk_text_like z) r s2) ≡ err e → said (channel_group_links a fuel x y z c r s) ≡ err e
+    module _ (s2 : State) (q : said (walk_source y r s1) ≡ ok s2) where
+      pub links_third : {e : Refusal} → said (walk_text_like z r s2) ≡ err e → said (channel_group_links fuel x y z c r s) ≡ err e
       unfolding channel_group_links
       links_third {e} h =
-          then_off texts (by_link a 1 (chain fuel walk_channel c tt)) r s e (ap said (third (by_link a 2 (walk_text_like x)) (by_link a 3 (walk_source y)) (by_link a 5 (walk_text_like z)) r s s1 p s2 q) ∙ h)
+          then_off texts (chain fuel walk_channel c tt) r s e (ap said (third (walk_text_like x) (walk_source y) (walk_text_like z) r s s1 p s2 q) ∙ h)
 
-      pub links_last : (s3 : State) → said (by_link a 5 (walk_text_like z) r s2) ≡ ok s3 → said (channel_group_links a fuel x y z c r s) ≡ said (by_link a 1 (chain fuel walk_channel c tt) r s3)
+      pub links_last : (s3 : State) → said (walk_text_like z r s2) ≡ ok s3 → said (channel_group_links fuel x y z c r s) ≡ said (chain fuel walk_channel c tt r s3)
       unfolding channel_group_links
       links_last s3 h =
-          ap said (then_on texts (by_link a 1 (chain fuel walk_channel c tt)) r s s3 (ap said (third (by_link a 2 (walk_text_like x)) (by_link a 3 (walk_source y)) (by_link a 5 (walk_text_like z)) r s s1 p s2 q) ∙ h))
+          ap said (then_on texts (chain fuel walk_channel c tt) r s s3 (ap said (third (walk_text_like x) (walk_source y) (walk_text_like z) r s s1 p s2 q) ∙ h))
 
 -- the ways to answer: go on, refuse, hand a last callee's answer up
 after_from : (w w1 : Walk) (v b l : List ℕ) (x : Grouped) → w.visited ≤ w1.visited → GroupedAfter w1 x v b l → GroupedAfter w x v b l
@@ -177,16 +175,11 @@ after_from w w1 v b l (grouped.To w2 n s i) h a = record { within = a.within; gr
 after_from w w1 v b l (grouped.Refused e) h a = tt
 
 -- a callee's answer with the address of the next group and the record layout
-pub grouped_met : {w : Walk} {n : ℕ} {got : Handed} {v b l : List ℕ} {o : Out State} (r : Walked) (a next s i : ℕ) → Met w r v b l o
-    → GroupedMet w n got (to_grouped r a next s i) v b l (with_answer (next, hand_down (layout s i n) got) (led_on a o))
-unfolding with_answer led_on
-grouped_met {n = n} {got = got} {v = v} {b = b} {l = l} (walked.On w1) a next s i m =
-    let f = followed w1 a 0 v b l m.after.within in
-    record {
-      says = ap (λ (t : State). ok ((next, hand_down (layout s i n) got), t)) f.says ∙ ap (λ (o : Out State). with_answer (next, hand_down (layout s i n) got) (led_on a o)) m.says;
-      after = record { within = f.later.within; grew = m.after.grew };
-    }
-grouped_met {n = n} {got = got} (walked.Refused e) a next s i m = record { says = ap (λ (o : Out State). with_answer (next, hand_down (layout s i n) got) (led_on a o)) m.says; after = tt }
+pub grouped_met : {w : Walk} {n : ℕ} {got : Handed} {v b l : List ℕ} {o : Out State} (r : Walked) (next s i : ℕ) → Met w r v b l o
+    → GroupedMet w n got (to_grouped r next s i) v b l (with_answer (next, hand_down (layout s i n) got) o)
+unfolding with_answer
+grouped_met (walked.On w1) next s i m = record { says = ap (with_answer _) m.says; after = m.after }
+grouped_met (walked.Refused e) next s i m = record { says = ap (with_answer _) m.says; after = tt }
 
 module _ {w : Walk} {n : ℕ} {got : Handed} {v b l : List ℕ} {o : Out ((ℕ × Handed) × State)} where
   pub grouped_go : {w1 : Walk} {next s i : ℕ} → Within w1 v b l → w.visited ≤ w1.visited → o ≡ ok ((next, hand_down (layout s i n) got), held w1 v b l)
@@ -238,16 +231,3 @@ module _ {w : Walk} {n : ℕ} {v b l : List ℕ} {z : Result Stop (Handed × Sta
       go : (y : Result Stop (Handed × State)) → reason y ≡ err (numbers e) → err (numbers e) ≡ handed y
       go (ok x) q = never q
       go (err x) q = let d : x.why ≡ numbers e = cc in sym (ap err d)
-
--- a chain of groups that is handed the state in which a link is followed
-pub groups_follow : (m : Act Handed) (a k : ℕ) (r : List ℕ) {w w1 : Walk} {n : ℕ} {x : ChannelGroups} {v b l v' b' l' : List ℕ}
-    → Stepped w w1 v b l (following a k (held w v b l)) → GroupsMet w1 n x v' b' l' (m r (held w1 v b l)) → GroupsMet w n x v' b' l' (by_link a k m r (held w v b l))
-unfolding by_link
-groups_follow m a k r {w} {w1} {n} {x} {v} {b} {l} {v'} {b'} {l'} s g = record {
-  says = g.says ∙ ap (λ (t : State). handed (m r t)) s.says;
-  after = from x g.after;
-}
-  where
-    from : (y : ChannelGroups) → GroupsAfter w1 y v' b' l' → GroupsAfter w y v' b' l'
-    from (groups.On w2 p q) t = record { within = t.within; grew = omega (arith, s.later.grew, t.grew) }
-    from (groups.Refused e) t = tt

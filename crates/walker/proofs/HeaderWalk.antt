@@ -5,9 +5,9 @@ use mathlib.Core.List.{List, [], ◌∷◌, map}
 use Prim.Native.Nat.{ℕ}
 use lib.ListN.{length}
 use Rattle.mdf4.specs.Bytes.{little, num, words}
-use Rattle.mdf4.specs.Act.{Refusal, Out, ok, err, and_then, ID, HD, Link, State, chain, elem, pure, visit, by_link, ◌>>=◌, ◌>>◌}
+use Rattle.mdf4.specs.Act.{Refusal, Out, ok, err, and_then, ID, HD, Link, State, chain, elem, pure, visit, ◌>>=◌, ◌>>◌}
 use Rattle.mdf4.specs.Kinds.{shape, is, mark_in, no_records, records_in, read_block, make_link, name_ok}
-use Rattle.mdf4.specs.Walk.{content_ok, after_reading, enter, addr, link_of, walk_text_like, walk_data_group, header_links as links_of_header, walk_header, walk_identification, walk}
+use Rattle.mdf4.specs.Walk.{content_ok, after_reading, enter, addr, link_of, walk_text_like, walk_data_group, walk_header, walk_identification, walk}
 use Rattle.mdf4.proofs.Fuel.{once_seen}
 use Rattle.blocks.specs.declared.header_block.HeaderBlock.{HeaderBlock}
 use Rattle.blocks.specs.HeaderBlock.{header_block_of}
@@ -79,14 +79,14 @@ module _ (r : List ℕ) (s : State) where
 
 -- what the header's links lead to
 module _ (fuel comment first : ℕ) (r : List ℕ) (s : State) where
-  pub links_off : (e : Refusal) → said (by_link 64 5 (walk_text_like comment) r s) ≡ err e → said (header_links fuel comment first r s) ≡ err e
+  pub links_off : (e : Refusal) → said (walk_text_like comment r s) ≡ err e → said (header_links fuel comment first r s) ≡ err e
   unfolding header_links
-  links_off e q = then_off (by_link 64 5 (walk_text_like comment)) (by_link 64 0 (chain fuel (walk_data_group fuel) first tt)) r s e q
+  links_off e q = then_off (walk_text_like comment) (chain fuel (walk_data_group fuel) first tt) r s e q
 
-  pub links_on : (s' : State) → said (by_link 64 5 (walk_text_like comment) r s) ≡ ok s'
-      → said (header_links fuel comment first r s) ≡ said (by_link 64 0 (chain fuel (walk_data_group fuel) first tt) r s')
+  pub links_on : (s' : State) → said (walk_text_like comment r s) ≡ ok s'
+      → said (header_links fuel comment first r s) ≡ said (chain fuel (walk_data_group fuel) first tt r s')
   unfolding header_links
-  links_on s' q = ap said (then_on (by_link 64 5 (walk_text_like comment)) (by_link 64 0 (chain fuel (walk_data_group fuel) first tt)) r s s' q)
+  links_on s' q = ap said (then_on (walk_text_like comment) (chain fuel (walk_data_group fuel) first tt) r s s' q)
 
 -- a header that is not read, and what one that is tells
 pub header_refused : (fuel : ℕ) (r : List ℕ) (s : State) {e : Refusal} → err e ≡ parsed header_block_of HD r 64 → said (enter_header fuel r s) ≡ err e
@@ -157,16 +157,16 @@ module _ (r : List ℕ) (b : HeaderBlock) (t : HeaderTold r b) where
 -- the header, seen before or entered
 module _ (fuel : ℕ) (r : List ℕ) (s : State) where
   pub header_seen : elem 64 s.visited ≡ true → said (walk_header fuel r s) ≡ ok s
-  unfolding walk_header links_of_header enter_header header_links
+  unfolding walk_header enter_header header_links
   header_seen e = rw (once_seen HD 64 tt (enter_header fuel) r s e)
 
   module _ (i : elem 64 s.visited ≡ false) where
     pub header_full : (e : Refusal) → said (visit HD 64 r s) ≡ err e → said (walk_header fuel r s) ≡ err e
-    unfolding walk_header links_of_header enter_header header_links
+    unfolding walk_header enter_header header_links
     header_full e q = once_off HD 64 tt (enter_header fuel) r s i e q
 
     pub header_new : (s' : State) → said (visit HD 64 r s) ≡ ok s' → said (walk_header fuel r s) ≡ said (enter_header fuel r s')
-    unfolding walk_header links_of_header enter_header header_links
+    unfolding walk_header enter_header header_links
     header_new s' q = rw (once_on HD 64 tt (enter_header fuel) r s i s' q)
 
 -- the recording

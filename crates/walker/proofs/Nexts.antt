@@ -3,7 +3,7 @@ use mathlib.Core.Path.{◌≡◌, refl, sym, ap, ◌∙◌}
 use mathlib.Core.List.{List}
 use Prim.Native.Nat.{ℕ, ◌≤◌}
 use native.Mathlib.Omega.{arith}
-use Rattle.mdf4.specs.Act.{Result, Stop, Out, ok, err, and_then, Link, State, Act, reason, pure, by_link, following, ◌>>◌}
+use Rattle.mdf4.specs.Act.{Result, Stop, Out, ok, err, and_then, Link, State, Act, reason, pure, ◌>>◌}
 use Rattle.mdf4.specs.Kinds.{make_link}
 use Rattle.blocks.specs.declared.error.MdfError.{MdfError}
 use Rattle.blocks.specs.Errors.{numbers}
@@ -11,7 +11,6 @@ use Rattle.walk_state.specs.declared.Walk.{Walk}
 use Rattle.walk_state.specs.declared.Walked.{Walked}
 use Rattle.walk_state.specs.declared.Walked.TheVariants as walked
 use Rattle.walk_state.specs.Held.{held, said, Within, Met}
-use Rattle.walk_state.proofs.States.{followed}
 use Rattle.walker.specs.declared.channels.Next.{Next}
 use Rattle.walker.specs.declared.channels.Next.TheVariants.{To, Refused}
 use Rattle.walker.specs.Chains.{NextAfter, NextMet, to_next}
@@ -26,30 +25,20 @@ unfoldable pub with_answer : {A : Type 0} → A → Out State → Out (A × Stat
 with_answer x (ok s) = ok (x, s)
 with_answer x (err e) = err e
 
--- the state in which the first link of the block at a is followed
-unfoldable pub led_on : ℕ → Out State → Out State
-led_on a (ok s) = ok (following a 0 s)
-led_on a (err e) = err e
-
--- a step that answers x, to which the first link of the block at a leads, behind another
-pub answered : {A B : Type 0} (a : ℕ) (m : Act A) (x : B) (r : List ℕ) (s : State) → reason ((m >> by_link a 0 (pure x)) r s) ≡ with_answer x (led_on a (said (m r s)))
-unfolding ◌>>◌ and_then pure by_link reason with_answer led_on
-answered {A} {B} a m x r s = go (m r s)
+-- a step that answers x behind another
+pub answered : {A B : Type 0} (m : Act A) (x : B) (r : List ℕ) (s : State) → reason ((m >> pure x) r s) ≡ with_answer x (said (m r s))
+unfolding ◌>>◌ and_then pure reason with_answer
+answered {A} {B} m x r s = go (m r s)
   where
-    go : (z : Result Stop (A × State)) → reason (and_then {B = B × State} z (λ p. ok (x, following a 0 p.1))) ≡ with_answer x (led_on a (said z))
+    go : (z : Result Stop (A × State)) → reason (and_then {B = B × State} z (λ p. ok (x, p.1))) ≡ with_answer x (said z)
     go (ok p) = refl
     go (err z) = refl
 
 -- a callee's answer with the next address n
-pub next_met : {w : Walk} {v b l : List ℕ} {o : Out State} (r : Walked) (a n : ℕ) → Met w r v b l o → NextMet w (to_next r a n) v b l (with_answer (n, tt) (led_on a o))
-unfolding with_answer led_on
-next_met {v = v} {b = b} {l = l} (walked.On w1) a n m =
-    let f = followed w1 a 0 v b l m.after.within in
-    record {
-      says = ap (λ (s : State). ok ((n, tt), s)) f.says ∙ ap (λ (o : Out State). with_answer (n, tt) (led_on a o)) m.says;
-      after = record { within = f.later.within; grew = m.after.grew };
-    }
-next_met (walked.Refused e) a n m = record { says = ap (λ (o : Out State). with_answer (n, tt) (led_on a o)) m.says; after = tt }
+pub next_met : {w : Walk} {v b l : List ℕ} {o : Out State} (r : Walked) (n : ℕ) → Met w r v b l o → NextMet w (to_next r n) v b l (with_answer (n, tt) o)
+unfolding with_answer
+next_met (walked.On w1) n m = record { says = ap (with_answer (n, tt)) m.says; after = m.after }
+next_met (walked.Refused e) n m = record { says = ap (with_answer (n, tt)) m.says; after = tt }
 
 module _ {w : Walk} {v b l : List ℕ} {o : Out ((ℕ × Unit {0}) × State)} where
   pub next_to : {w' : Walk} {n : ℕ} → Within w' v b l → w.visited ≤ w'.visited → o ≡ ok ((n, tt), held w' v b l) → NextMet w (To w' n) v b l o

@@ -7,7 +7,6 @@ use Rattle.walk_state.specs.declared.Walk.{Walk}
 use Rattle.walk_state.specs.declared.Walked.{Walked}
 use Rattle.walk_state.specs.declared.Walked.TheVariants.{On, Refused}
 use Rattle.walk_state.specs.Held.{held, Later}
-use Rattle.walk_state.proofs.States.{led_by}
 use Rattle.walk_blocks.specs.Regions.{layout}
 use Rattle.walker.specs.declared.channels.Next.{Next}
 use Rattle.walker.specs.declared.channels.Next.TheVariants as next
@@ -28,10 +27,10 @@ pub record NextMet (w : Walk) (x : Next) (v b l : List ℕ) (o : Out ((ℕ × Un
   pub says : next_said x v b l ≡ o
   pub after : NextAfter w x v b l
 
--- the walk's answer with the address n of the next block, to which the first link of the block at a leads
-abbrev pub to_next : Walked → ℕ → ℕ → Next
-to_next (On w) a n = next.To (led_by a 0 w) n
-to_next (Refused e) a n = next.Refused e
+-- the walk's answer with the address n of the next block
+abbrev pub to_next : Walked → ℕ → Next
+to_next (On w) n = next.To w n
+to_next (Refused e) n = next.Refused e
 
 -- a channel group, with the record layout it hands down to its data group, whose records have ids of `id-len` bytes
 abbrev pub grouped_said : ℕ → Handed → Grouped → List ℕ → List ℕ → List ℕ → Out ((ℕ × Handed) × State)
@@ -47,6 +46,6 @@ pub record GroupedMet (w : Walk) (id_len : ℕ) (got : Handed) (x : Grouped) (v 
   pub after : GroupedAfter w x v b l
 
 -- the walk's answer with the address n of the next group, the record size s and i invalidation bytes
-abbrev pub to_grouped : Walked → ℕ → ℕ → ℕ → ℕ → Grouped
-to_grouped (On w) a n s i = grouped.To (led_by a 0 w) n s i
-to_grouped (Refused e) a n s i = grouped.Refused e
+abbrev pub to_grouped : Walked → ℕ → ℕ → ℕ → Grouped
+to_grouped (On w) n s i = grouped.To w n s i
+to_grouped (Refused e) n s i = grouped.Refused e

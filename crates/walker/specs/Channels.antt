@@ -1,9 +1,9 @@
 -- Parts of the walk of a channel.
 use Rattle.std.specs.Prelude.{◌≡◌, List, map, ℕ, eqb}
 use Rattle.mdf4.specs.Bytes.{num}
-use Rattle.mdf4.specs.Act.{ok, err, CN, State, Act, choose, pure, by_link, ◌>>=◌, ◌>>◌}
+use Rattle.mdf4.specs.Act.{ok, err, CN, State, Act, choose, pure, ◌>>=◌, ◌>>◌}
 use Rattle.mdf4.specs.Kinds.{shape, no_records, make_link}
-use Rattle.mdf4.specs.Walk.{enter, follow, follow_link, walk_text_like, walk_source, walk_conversion, max_lists, walk_data_region}
+use Rattle.mdf4.specs.Walk.{enter, addr, link_of, walk_text_like, walk_source, walk_conversion, max_lists, walk_data_region}
 use Rattle.blocks.specs.Errors.{numbers}
 use Rattle.blocks.specs.ChannelBlock.{channel_block_of}
 use Rattle.blocks.specs.declared.channel_block.ChannelBlock.{ChannelBlock}
@@ -20,22 +20,22 @@ use Rattle.walker.specs.declared.channels.Opened.TheVariants.{Channel, Refused}
 
 -- what a channel at a with the fields x leads to: name, source and conversion
 unfoldable pub channel_source : ℕ → ChannelBlock → Act (Unit {0})
-channel_source a x = by_link a 2 (walk_text_like x.name_addr) >> by_link a 3 (walk_source x.source_addr) >> by_link a 4 (walk_conversion a x.conversion_addr)
+channel_source a x = walk_text_like x.name_addr >> walk_source x.source_addr >> walk_conversion a x.conversion_addr
 
 -- then unit and comment
 unfoldable pub channel_texts : ℕ → ChannelBlock → Act (Unit {0})
-channel_texts a x = channel_source a x >> by_link a 6 (walk_text_like x.unit_addr) >> by_link a 7 (walk_text_like x.comment_addr)
+channel_texts a x = channel_source a x >> walk_text_like x.unit_addr >> walk_text_like x.comment_addr
 
 -- its own data
-unfoldable pub channel_data : ℕ → ChannelBlock → Act (Unit {0})
-channel_data a x r = choose (eqb x.channel_type 1) (by_link a 5 (walk_data_region max_lists (no_records 0) (make_link r x.data_addr))) (pure tt) r
+unfoldable pub channel_data : ChannelBlock → Act (Unit {0})
+channel_data x r = choose (eqb x.channel_type 1) (walk_data_region max_lists (no_records 0) (make_link r x.data_addr)) (pure tt) r
 
 -- what is left once its offset is marked
 unfoldable pub enter_channel : ℕ → Act (ℕ × Unit {0})
 enter_channel a = enter CN a (no_records 0) >>= λ b.
-    follow a b 2 walk_text_like >> follow a b 3 walk_source >> follow a b 4 (walk_conversion a) >> follow a b 6 walk_text_like >> follow a b 7 walk_text_like
-    >> choose (eqb (num b.0 88 1) 1) (follow_link a b 5 (walk_data_region max_lists (no_records 0))) (pure tt)
-    >> follow a b 0 (λ next. pure (next, tt))
+    walk_text_like (addr b 2) >> walk_source (addr b 3) >> walk_conversion a (addr b 4) >> walk_text_like (addr b 6) >> walk_text_like (addr b 7)
+    >> choose (eqb (num b.0 88 1) 1) (walk_data_region max_lists (no_records 0) (link_of b 5)) (pure tt)
+    >> pure (addr b 0, tt)
 
 -- the channel at a of the recording r, with the fields x, is listed from s on to s'
 pub record Entered (r : List ℕ) (a : ℕ) (x : ChannelBlock) (s s' : State) : Type 0 where

@@ -1,6 +1,6 @@
 -- Parts of the walk of a channel group, and what the channel groups of a data group answer.
 use Rattle.std.specs.Prelude.{◌≡◌, List, ℕ}
-use Rattle.mdf4.specs.Act.{Result, Stop, Out, ok, err, CG, State, Act, pure, ◌>>=◌, ◌>>◌, chain, by_link}
+use Rattle.mdf4.specs.Act.{Result, Stop, Out, ok, err, CG, State, Act, pure, ◌>>=◌, ◌>>◌, chain}
 use Rattle.mdf4.specs.Kinds.{RecordLayout, no_records, cg_records, read_block}
 use Rattle.mdf4.specs.Walk.{Handed, hand_down, enter, addr, walk_text_like, walk_source, walk_channel}
 use Rattle.blocks.specs.Errors.{numbers}
@@ -28,15 +28,14 @@ abbrev pub no_channel_group : ChannelGroupBlockRead → Walk → Grouped
 no_channel_group (read.Block g) w = grouped.To w 0 0 0
 no_channel_group (read.Refused e) w = grouped.Refused e
 
--- acquisition name, source and comment, then channels of the group at a
-unfoldable pub channel_group_links : ℕ → ℕ → ℕ → ℕ → ℕ → ℕ → Act (Unit {0})
-channel_group_links a fuel name source comment first =
-    by_link a 2 (walk_text_like name) >> by_link a 3 (walk_source source) >> by_link a 5 (walk_text_like comment) >> by_link a 1 (chain fuel walk_channel first tt)
+-- its acquisition name, source and comment, then its channels
+unfoldable pub channel_group_links : ℕ → ℕ → ℕ → ℕ → ℕ → Act (Unit {0})
+channel_group_links fuel name source comment first = walk_text_like name >> walk_source source >> walk_text_like comment >> chain fuel walk_channel first tt
 
 -- what is left once its offset is marked
 unfoldable pub enter_channel_group : ℕ → ℕ → ℕ → Handed → Act (ℕ × Handed)
 enter_channel_group fuel id_len a got = enter CG a (no_records id_len) >>= λ b.
-    channel_group_links a fuel (addr b 2) (addr b 3) (addr b 5) (addr b 1) >> by_link a 0 (pure (addr b 0, hand_down (cg_records id_len b.0) got))
+    channel_group_links fuel (addr b 2) (addr b 3) (addr b 5) (addr b 1) >> pure (addr b 0, hand_down (cg_records id_len b.0) got)
 
 -- of what a chain of channel groups hands down, the record layout
 abbrev pub handed : Result Stop (Handed × State) → Out (RecordLayout × State)

@@ -1,6 +1,6 @@
 -- Parts of the walks of the identification and of the header.
 use Rattle.std.specs.Prelude.{ℕ}
-use Rattle.mdf4.specs.Act.{HD, Act, ◌>>=◌, ◌>>◌, chain, by_link}
+use Rattle.mdf4.specs.Act.{HD, Act, ◌>>=◌, ◌>>◌, chain}
 use Rattle.mdf4.specs.Kinds.{no_records}
 use Rattle.mdf4.specs.Walk.{enter, addr, walk_text_like, walk_data_group}
 use Rattle.blocks.specs.declared.header_block.HeaderBlockRead.{HeaderBlockRead}
@@ -23,7 +23,7 @@ no_header (header.Refused e) w = Refused e
 
 -- its comment, then the data groups
 unfoldable pub header_links : ℕ → ℕ → ℕ → Act (Unit {0})
-header_links fuel comment first = by_link 64 5 (walk_text_like comment) >> by_link 64 0 (chain fuel (walk_data_group fuel) first tt)
+header_links fuel comment first = walk_text_like comment >> chain fuel (walk_data_group fuel) first tt
 
 -- what is left once its offset is marked
 unfoldable pub enter_header : ℕ → Act (Unit {0})

@@ -8,11 +8,11 @@ ghost use Rattle.walk_state.specs.Held.{held, said, state_of, checked, Within, M
 ghost use Rattle.walker.specs.Chains.{NextMet, to_next};
 ghost use Rattle.walker.specs.Channels.{channel_source, channel_texts, channel_data, enter_channel, Opens, no_channel, to_opened, unopened};
 
-use crate::follows::{follow_conversion, follow_region, follow_source};
 use blocks::channel_block::{ChannelBlock, ChannelBlockRead};
 use blocks::error::MdfError;
 use channel_name::{NameRead, read_text_at};
-use walk_blocks::texts::{follow_text, plain_block};
+use walk_blocks::regions::walk_data_region;
+use walk_blocks::texts::{plain_block, walk_conversion, walk_source, walk_text_like};
 use walk_state::{Walk, Walked, list_block, make_link, seen, visit};
 
 // Document 01's number of the kind.
@@ -32,16 +32,11 @@ pub enum Next {
 }
 
 // A step's answer: the address of the next block where the walk goes on.
-pub(crate) fn to_next(r: Walked, block: u64, next: u64) -> Next
-    ensures { result ≡ to_next r block next }
+pub(crate) fn to_next(r: Walked, next: u64) -> Next
+    ensures { result ≡ to_next r next }
 {
     match r {
-        Walked::On(w) => {
-            let mut on = w;
-            on.from_block = block;
-            on.from_link = 0;
-            Next::To { w: on, next }
-        }
+        Walked::On(w) => Next::To { w, next },
         Walked::Refused(e) => Next::Refused(e),
     }
 }
@@ -150,24 +145,15 @@ fn walk_channel_source(
     requires { Within w visited.old blocks.old links.old }
     ensures { Met w result visited.new blocks.new links.new (said (channel_source addr channel file.now (held w visited.old blocks.old links.old))) }
 {
-    let r1 = follow_text(file, visited, blocks, links, w, addr, 2, channel.name_addr);
+    let r1 = walk_text_like(file, visited, blocks, links, w, channel.name_addr);
     let Walked::On(w1) = r1 else {
         return r1;
     };
-    let r2 = follow_source(
-        file,
-        visited,
-        blocks,
-        links,
-        w1,
-        addr,
-        3,
-        channel.source_addr,
-    );
+    let r2 = walk_source(file, visited, blocks, links, w1, channel.source_addr);
     let Walked::On(w2) = r2 else {
         return r2;
     };
-    follow_conversion(visited, w2, addr, channel.conversion_addr)
+    walk_conversion(visited, w2, addr, channel.conversion_addr)
 }
 
 // Walks a channel's name, source, conversion, unit and comment.
@@ -187,20 +173,11 @@ fn walk_channel_texts(
     let Walked::On(w1) = r1 else {
         return r1;
     };
-    let r2 = follow_text(file, visited, blocks, links, w1, addr, 6, channel.unit_addr);
+    let r2 = walk_text_like(file, visited, blocks, links, w1, channel.unit_addr);
     let Walked::On(w2) = r2 else {
         return r2;
     };
-    follow_text(
-        file,
-        visited,
-        blocks,
-        links,
-        w2,
-        addr,
-        7,
-        channel.comment_addr,
-    )
+    walk_text_like(file, visited, blocks, links, w2, channel.comment_addr)
 }
 
 // Walks a channel's own data, which none but one of variable length signal data has.
@@ -210,19 +187,18 @@ fn walk_channel_data(
     blocks: &mut [u64],
     links: &mut [u64],
     w: Walk,
-    addr: u64,
     channel: ChannelBlock,
 ) -> Walked
     requires { Within w visited.old blocks.old links.old }
-    ensures { Met w result visited.new blocks.new links.new (said (channel_data addr channel file.now (held w visited.old blocks.old links.old))) }
+    ensures { Met w result visited.new blocks.new links.new (said (channel_data channel file.now (held w visited.old blocks.old links.old))) }
 {
     if channel.channel_type != VLSD {
         return Walked::On(w);
     }
     let target = channel.data_addr;
     let found = make_link(file, target);
-    follow_region(
-        file, visited, blocks, links, w, addr, 5, target, found, 0, 0, 0, MAX_LISTS,
+    walk_data_region(
+        file, visited, blocks, links, w, target, found, 0, 0, 0, MAX_LISTS,
     )
 }
 
@@ -244,10 +220,10 @@ fn enter_channel(
     };
     let r1 = walk_channel_texts(file, visited, blocks, links, w1, addr, channel);
     let Walked::On(w2) = r1 else {
-        return to_next(r1, addr, 0);
+        return to_next(r1, 0);
     };
-    let r2 = walk_channel_data(file, visited, blocks, links, w2, addr, channel);
-    to_next(r2, addr, channel.next_ch_addr)
+    let r2 = walk_channel_data(file, visited, blocks, links, w2, channel);
+    to_next(r2, channel.next_ch_addr)
 }
 
 // Walks a channel: its name, source, conversion, unit and comment, and its own data.
@@ -267,7 +243,7 @@ pub fn walk_channel(
     }
     let r = visit(visited, w, addr);
     let Walked::On(w1) = r else {
-        return to_next(r, addr, 0);
+        return to_next(r, 0);
     };
     enter_channel(file, visited, blocks, links, w1, addr)
 }

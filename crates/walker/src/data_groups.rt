@@ -9,11 +9,11 @@ ghost use Rattle.walker.specs.Groups.{without_layout};
 ghost use Rattle.walker.specs.DataGroups.{data_group_links, enter_data_group, no_data_group};
 
 use crate::channels::{Next, to_next};
-use crate::follows::follow_region;
-use crate::groups::{ChannelGroups, follow_channel_groups};
+use crate::groups::{ChannelGroups, walk_channel_groups};
 use blocks::data_group_block::{DataGroupBlock, DataGroupBlockRead};
-use walk_blocks::texts::{follow_text, plain_block};
-use walk_state::{Walk, Walked, follow, list_block, make_link, seen, visit};
+use walk_blocks::regions::walk_data_region;
+use walk_blocks::texts::{plain_block, walk_text_like};
+use walk_state::{Walk, Walked, list_block, make_link, seen, visit};
 
 // Document 01's number of the kind.
 const DG: u64 = 3;
@@ -42,27 +42,17 @@ fn walk_data_group_links(
     blocks: &mut [u64],
     links: &mut [u64],
     w: Walk,
-    addr: u64,
     group: DataGroupBlock,
 ) -> Walked
     requires { Within w visited.old blocks.old links.old }
-    ensures { (fuel : ℕ) → length visited.old ≤ fuel → Met w result visited.new blocks.new links.new (said (data_group_links addr fuel group.record_id_len group.comment_addr group.first_cg_addr (make_link file.now group.data_block_addr) file.now (held w visited.old blocks.old links.old))) }
+    ensures { (fuel : ℕ) → length visited.old ≤ fuel → Met w result visited.new blocks.new links.new (said (data_group_links fuel group.record_id_len group.comment_addr group.first_cg_addr (make_link file.now group.data_block_addr) file.now (held w visited.old blocks.old links.old))) }
 {
-    let r1 = follow_text(file, visited, blocks, links, w, addr, 3, group.comment_addr);
+    let r1 = walk_text_like(file, visited, blocks, links, w, group.comment_addr);
     let Walked::On(w1) = r1 else {
         return r1;
     };
     let first = group.first_cg_addr;
-    let r2 = follow_channel_groups(
-        file,
-        visited,
-        blocks,
-        links,
-        w1,
-        addr,
-        first,
-        group.record_id_len,
-    );
+    let r2 = walk_channel_groups(file, visited, blocks, links, w1, first, group.record_id_len);
     let ChannelGroups::On {
         w: w2,
         record_size,
@@ -73,14 +63,12 @@ fn walk_data_group_links(
     };
     let at = group.data_block_addr;
     let found = make_link(file, at);
-    follow_region(
+    walk_data_region(
         file,
         visited,
         blocks,
         links,
         w2,
-        addr,
-        2,
         at,
         found,
         record_size,
@@ -126,10 +114,10 @@ fn enter_data_group(
     let block = plain_block(addr, group.block_len, DataGroupBlock::ID, DG);
     let r1 = list_block(file, blocks, links, w, block, &targets);
     let Walked::On(w1) = r1 else {
-        return to_next(r1, addr, 0);
+        return to_next(r1, 0);
     };
-    let r2 = walk_data_group_links(file, visited, blocks, links, w1, addr, group);
-    to_next(r2, addr, next)
+    let r2 = walk_data_group_links(file, visited, blocks, links, w1, group);
+    to_next(r2, next)
 }
 
 // Walks a data group: its comment, its channel groups, then its data.
@@ -149,7 +137,7 @@ pub fn walk_data_group(
     }
     let r = visit(visited, w, addr);
     let Walked::On(on) = r else {
-        return to_next(r, addr, 0);
+        return to_next(r, 0);
     };
     enter_data_group(file, visited, blocks, links, on, addr)
 }
@@ -180,21 +168,4 @@ pub fn walk_data_groups(
         }
     }
     Walked::On(on)
-}
-
-// Follows the header's link to the chain of data groups.
-pub fn follow_data_groups(
-    file: &[u8],
-    visited: &mut [u64],
-    blocks: &mut [u64],
-    links: &mut [u64],
-    w: Walk,
-    block: u64,
-    first: u64,
-) -> Walked
-    requires { Within w visited.old blocks.old links.old }
-    ensures { (fuel : ℕ) → length visited.old ≤ fuel → Met w result visited.new blocks.new links.new (said (spec.by_link block 0 (spec.chain fuel (walk.walk_data_group fuel) first tt) file.now (held w visited.old blocks.old links.old))) }
-{
-    let on = follow(w, block, 0);
-    walk_data_groups(file, visited, blocks, links, on, first)
 }

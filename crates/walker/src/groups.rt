@@ -8,12 +8,11 @@ ghost use Rattle.walker.specs.Chains.{GroupedMet, to_grouped};
 ghost use Rattle.walker.specs.Groups.{GroupRead, channel_group_links, enter_channel_group, no_channel_group, GroupsMet};
 
 use crate::channels::{Next, walk_channel};
-use crate::follows::follow_source;
 use blocks::channel_group_block::{ChannelGroupBlock, ChannelGroupBlockRead};
 use blocks::common::wide;
 use blocks::error::MdfError;
-use walk_blocks::texts::follow_text;
-use walk_state::{Block, Walk, Walked, follow, list_block, seen, visit};
+use walk_blocks::texts::{walk_source, walk_text_like};
+use walk_state::{Block, Walk, Walked, list_block, seen, visit};
 
 // Document 01's number of the kind.
 const CG: u64 = 4;
@@ -56,23 +55,6 @@ pub fn walk_channels(
         }
     }
     Walked::On(on)
-}
-
-// Follows a link to a chain of channels.
-pub fn follow_channels(
-    file: &[u8],
-    visited: &mut [u64],
-    blocks: &mut [u64],
-    links: &mut [u64],
-    w: Walk,
-    block: u64,
-    first: u64,
-) -> Walked
-    requires { Within w visited.old blocks.old links.old }
-    ensures { (fuel : ℕ) → length visited.old ≤ fuel → Met w result visited.new blocks.new links.new (said (spec.by_link block 1 (spec.chain fuel walk.walk_channel first tt) file.now (held w visited.old blocks.old links.old))) }
-{
-    let on = follow(w, block, 1);
-    walk_channels(file, visited, blocks, links, on, first)
 }
 
 // The bytes of a record: its id, its samples and its invalidation bytes.
@@ -135,52 +117,24 @@ fn walk_channel_group_links(
     blocks: &mut [u64],
     links: &mut [u64],
     w: Walk,
-    addr: u64,
     group: ChannelGroupBlock,
 ) -> Walked
     requires { Within w visited.old blocks.old links.old }
-    ensures { (fuel : ℕ) → length visited.old ≤ fuel → Met w result visited.new blocks.new links.new (said (channel_group_links addr fuel group.acq_name_addr group.acq_source_addr group.comment_addr group.first_ch_addr file.now (held w visited.old blocks.old links.old))) }
+    ensures { (fuel : ℕ) → length visited.old ≤ fuel → Met w result visited.new blocks.new links.new (said (channel_group_links fuel group.acq_name_addr group.acq_source_addr group.comment_addr group.first_ch_addr file.now (held w visited.old blocks.old links.old))) }
 {
-    let r1 = follow_text(
-        file,
-        visited,
-        blocks,
-        links,
-        w,
-        addr,
-        2,
-        group.acq_name_addr,
-    );
+    let r1 = walk_text_like(file, visited, blocks, links, w, group.acq_name_addr);
     let Walked::On(w1) = r1 else {
         return r1;
     };
-    let r2 = follow_source(
-        file,
-        visited,
-        blocks,
-        links,
-        w1,
-        addr,
-        3,
-        group.acq_source_addr,
-    );
+    let r2 = walk_source(file, visited, blocks, links, w1, group.acq_source_addr);
     let Walked::On(w2) = r2 else {
         return r2;
     };
-    let r3 = follow_text(
-        file,
-        visited,
-        blocks,
-        links,
-        w2,
-        addr,
-        5,
-        group.comment_addr,
-    );
+    let r3 = walk_text_like(file, visited, blocks, links, w2, group.comment_addr);
     let Walked::On(w3) = r3 else {
         return r3;
     };
-    follow_channels(file, visited, blocks, links, w3, addr, group.first_ch_addr)
+    walk_channels(file, visited, blocks, links, w3, group.first_ch_addr)
 }
 
 // The answer where no channel group was read.
@@ -199,27 +153,16 @@ fn no_channel_group(read: ChannelGroupBlockRead, w: Walk) -> Grouped
 }
 
 // A channel group's answer: the address of the next one and its record layout, where the walk goes on.
-fn to_grouped(
-    r: Walked,
-    block: u64,
-    next: u64,
-    record_size: u64,
-    invalidation_bytes: u64,
-) -> Grouped
-    ensures { result ≡ to_grouped r block next record_size invalidation_bytes }
+fn to_grouped(r: Walked, next: u64, record_size: u64, invalidation_bytes: u64) -> Grouped
+    ensures { result ≡ to_grouped r next record_size invalidation_bytes }
 {
     match r {
-        Walked::On(w) => {
-            let mut on = w;
-            on.from_block = block;
-            on.from_link = 0;
-            Grouped::To {
-                w: on,
-                next,
-                record_size,
-                invalidation_bytes,
-            }
-        }
+        Walked::On(w) => Grouped::To {
+            w,
+            next,
+            record_size,
+            invalidation_bytes,
+        },
         Walked::Refused(e) => Grouped::Refused(e),
     }
 }
@@ -243,12 +186,12 @@ fn enter_channel_group(
     };
     let r1 = list_channel_group(file, blocks, links, w, addr, record_id_len, group);
     let Walked::On(w1) = r1 else {
-        return to_grouped(r1, addr, 0, 0, 0);
+        return to_grouped(r1, 0, 0, 0);
     };
-    let r2 = walk_channel_group_links(file, visited, blocks, links, w1, addr, group);
+    let r2 = walk_channel_group_links(file, visited, blocks, links, w1, group);
     let bytes = group.invalidation_bytes_nr;
     let size = record_size(record_id_len, group.samples_byte_nr, bytes);
-    to_grouped(r2, addr, group.next_cg_addr, size, wide(bytes))
+    to_grouped(r2, group.next_cg_addr, size, wide(bytes))
 }
 
 // Walks a channel group: its acquisition name, source and comment, then its channels. `record_id_len` is its data group's.
@@ -274,7 +217,7 @@ pub fn walk_channel_group(
     }
     let r = visit(visited, w, addr);
     let Walked::On(w1) = r else {
-        return to_grouped(r, addr, 0, 0, 0);
+        return to_grouped(r, 0, 0, 0);
     };
     enter_channel_group(file, visited, blocks, links, w1, addr, record_id_len)
 }
@@ -335,22 +278,4 @@ pub fn walk_channel_groups(
         record_size,
         invalidation_bytes,
     }
-}
-
-// Follows a link to a chain of channel groups.
-pub fn follow_channel_groups(
-    file: &[u8],
-    visited: &mut [u64],
-    blocks: &mut [u64],
-    links: &mut [u64],
-    w: Walk,
-    block: u64,
-    first: u64,
-    record_id_len: u8,
-) -> ChannelGroups
-    requires { Within w visited.old blocks.old links.old }
-    ensures { (fuel : ℕ) → length visited.old ≤ fuel → GroupsMet w record_id_len result visited.new blocks.new links.new (spec.by_link block 1 (spec.chain fuel (walk.walk_channel_group fuel record_id_len) first (false, no_records record_id_len)) file.now (held w visited.old blocks.old links.old)) }
-{
-    let on = follow(w, block, 1);
-    walk_channel_groups(file, visited, blocks, links, on, first, record_id_len)
 }

@@ -6,10 +6,10 @@ ghost use Rattle.mdf4.specs.Walk as defn;
 ghost use Rattle.walk_state.specs.Held.{held, said, Within, Met, Counted};
 ghost use Rattle.walker.specs.Header.{header_links, enter_header, no_header, no_identification};
 
-use crate::data_groups::follow_data_groups;
+use crate::data_groups::walk_data_groups;
 use blocks::header_block::{HeaderBlock, HeaderBlockRead};
 use blocks::identification_block::{IdentificationBlock, IdentificationBlockRead};
-use walk_blocks::texts::{follow_text, list_plain, plain_block};
+use walk_blocks::texts::{list_plain, plain_block, walk_text_like};
 use walk_state::{Walk, Walked, list_block, seen, visit};
 
 // Document 01's numbers of the kinds.
@@ -77,11 +77,11 @@ fn walk_header_links(
     requires { Within w visited.old blocks.old links.old }
     ensures { (fuel : ℕ) → length visited.old ≤ fuel → Met w result visited.new blocks.new links.new (said (header_links fuel comment first file.now (held w visited.old blocks.old links.old))) }
 {
-    let r = follow_text(file, visited, blocks, links, w, HEADER_AT, 5, comment);
+    let r = walk_text_like(file, visited, blocks, links, w, comment);
     let Walked::On(on) = r else {
         return r;
     };
-    follow_data_groups(file, visited, blocks, links, on, HEADER_AT, first)
+    walk_data_groups(file, visited, blocks, links, on, first)
 }
 
 // The answer where no header was read.

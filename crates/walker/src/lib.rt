@@ -2,6 +2,5 @@
 // tables what the definition's step of the same name does.
 pub mod channels;
 pub mod data_groups;
-pub mod follows;
 pub mod groups;
 pub mod header;

@@ -6,7 +6,6 @@ use mathlib.Core.List.{[]}
 use lib.ListN.{length}
 use Rattle.mdf4.specs.Act.{ok, and_then}
 use Rattle.mdf4.specs.Walk.{targets_ok}
-use Rattle.mdf4.specs.Answers.{block_row_words}
 use Rattle.walk_state.specs.Held.{held, room_for}
 use Rattle.walk_state.proofs.Steps.{stop}
 use Rattle.walk_state.proofs.Room.{room_shown}
@@ -32,7 +31,7 @@ returns-2 c k h o v t i =
 
 -- what the second test has shown
 shown : (c : tie.After-enum-told3) → (c.before.before.before.before.before.before.before.before.before.before.before.before.args.block.offset + c.before.before.before.before.before.before.before.before.before.before.before.before.args.block.size < 2 ^ 64)
-    × (c.before.before.before.before.before.before.before.before.before.before.before.before.args.w.blocks < length c.before.before.before.before.before.before.before.before.before.before.before.before.args.blocks.now / block_row_words) × (c.before.before.before.before.before.before.before.before.before.before.before.before.args.w.links + length c.before.before.before.before.before.before.before.before.before.before.before.before.args.targets.now ≤ length c.before.before.before.before.before.before.before.before.before.before.before.before.args.links.now / 2)
+    × (c.before.before.before.before.before.before.before.before.before.before.before.before.args.w.blocks < length c.before.before.before.before.before.before.before.before.before.before.before.before.args.blocks.now / 12) × (c.before.before.before.before.before.before.before.before.before.before.before.before.args.w.links + length c.before.before.before.before.before.before.before.before.before.before.before.before.args.targets.now ≤ length c.before.before.before.before.before.before.before.before.before.before.before.before.args.links.now / 2)
 shown c =
     let a = c.before.before.before.before.before.before.before.before.before.before.before.before.args in
     room_shown a.block.offset a.block.size (length a.targets.now) a.w [] a.blocks.now a.links.now

@@ -10,7 +10,7 @@ name_place_spec =
     tie.close
     (tie.spec
     (λ c κs. search rules)
-    (λ c. hd_placed c.before.before.args.kind c.before.before.args.i (omega arith) c.place_in.ensures)
+    (λ c. hd_placed c.before.before.args.kind c.before.before.args.i (omega arith) c.IsPlace_in.ensures)
     (λ c κs. search rules)
     (λ c. dg_placed c.before.before.before.args.kind c.before.before.before.args.i (omega arith) c.place_in2.ensures)
     (λ c κs. search rules)

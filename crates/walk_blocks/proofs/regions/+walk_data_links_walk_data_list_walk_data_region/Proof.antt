@@ -7,7 +7,7 @@ use lib.ListN.{length}
 use Rattle.mdf4.specs.Act.{Link}
 use Rattle.mdf4.specs.Kinds.{RecordLayout}
 use Rattle.walk_state.specs.Held.{held, said}
-use Rattle.walk_state.proofs.Steps.{on, off, go, stop, last, by_follow}
+use Rattle.walk_state.proofs.Steps.{on, off, go, stop, last}
 use Rattle.walk_blocks.specs.Regions.{layout, links_from}
 use Rattle.walk_blocks.proofs.DataRegions.{region_list, region_block, list_left, Into, list_into, Turning, turn_on, turn_off, turn_end}
 use borrow.Author.Rules.{rules}
@@ -28,7 +28,6 @@ use Rattle.walk_blocks.proofs.regions.not_entered.Reads as not_entered_reads
 use Rattle.walk_blocks.proofs.regions.walk_data_block.Reads as walk_data_block_reads
 use Rattle.blocks.proofs.data_list_block.DataListBlock.is_target.Reads as is_target_reads
 use Rattle.walk_state.proofs.make_link.Reads as make_link_reads
-use Rattle.walk_state.proofs.follow.Reads as follow_reads
 use Rattle.walk_blocks.proofs.regions.+walk_data_links_walk_data_list_walk_data_region.{statement}
 use Rattle.walk_blocks.proofs.regions.+walk_data_links_walk_data_list_walk_data_region.Tie.{close}
 
@@ -72,11 +71,11 @@ links_μ_loop file visited₀ blocks₀ links₀ addr count record_size invalida
 
 abbrev links_calls : ℕ → links_lts.Claims
 links_calls t =
-    (data_link_reads.Asked, data_link_reads.Learnt, make_link_reads.Asked, make_link_reads.Learnt, follow_reads.Asked, follow_reads.Learnt, region_below t, region.Post)
+    (data_link_reads.Asked, data_link_reads.Learnt, make_link_reads.Asked, make_link_reads.Learnt, region_below t, region.Post)
 
 abbrev list_calls : ℕ → list_lts.Claims
 list_calls t =
-    (enter_list_reads.Asked, enter_list_reads.Learnt, not_entered_reads.Asked, not_entered_reads.Learnt, links_below t, links.Post, data_link_reads.Asked, data_link_reads.Learnt, make_link_reads.Asked, make_link_reads.Learnt, follow_reads.Asked, follow_reads.Learnt, region_below t, region.Post)
+    (enter_list_reads.Asked, enter_list_reads.Learnt, not_entered_reads.Asked, not_entered_reads.Learnt, links_below t, links.Post, data_link_reads.Asked, data_link_reads.Learnt, make_link_reads.Asked, make_link_reads.Learnt, region_below t, region.Post)
 
 abbrev region_calls : ℕ → region_lts.Claims
 region_calls t =
@@ -90,21 +89,21 @@ links_data_link_requires : (t : ℕ) → links_lts.Need-data-link-requires (link
 links_data_link_requires t c κs = omega (arith, c.before.before.before.before.before.before.requires.1.1, c.loop-test.true)
 
 links_region_requires : (t : ℕ) → links_lts.Need-walk-data-region-requires (links_calls t) (links_at t) links.Post links_Inv_loop links_μ_loop
-links_region_requires t c κs = (omega arith, (c.before.before.before.follow.ensures _ _ _ c.before.before.before.before.before.before.before.loop.invariant.3.later.within).later.within)
+links_region_requires t c κs = (omega arith, c.before.before.before.before.before.before.loop.invariant.3.later.within)
 
 links_returns : (t : ℕ) → links_lts.Need-returns (links_calls t) (links_at t) links.Post links_Inv_loop links_μ_loop
 links_returns t c =
     let e = c.enum_told.given.1 in
-    stop e (turn_off _ _ _ _ _ _ _ _ _ _ _ _ c.before.before.before.before.before.before.before.before.before.before.before.before.before.before.before.before.loop.invariant.3 _ _ _ _ _ _ c.before.before.before.before.before.before.before.before.before.before.before.before.before.before.before.loop-test.true c.before.before.before.before.before.before.before.before.before.before.before.before.before.before.data_link.ensures c.before.before.before.before.before.before.before.before.before.before.before.before.before.make_link.ensures (by_follow _ _ _ _ (c.before.before.before.before.before.before.before.before.before.before.before.before.follow.ensures _ _ _ c.before.before.before.before.before.before.before.before.before.before.before.before.before.before.before.before.loop.invariant.3.later.within) c.before.before.before.before.before.before.before.before.walk_data_region.ensures) _ e)
+    stop e (turn_off _ _ _ _ _ _ _ _ _ _ _ _ c.before.before.before.before.before.before.before.before.before.before.before.before.before.before.before.loop.invariant.3 _ _ _ _ _ _ c.before.before.before.before.before.before.before.before.before.before.before.before.before.before.loop-test.true c.before.before.before.before.before.before.before.before.before.before.before.before.before.data_link.ensures c.before.before.before.before.before.before.before.before.before.before.before.before.make_link.ensures c.before.before.before.before.before.before.before.before.walk_data_region.ensures _ e)
 
 links_add_i : (t : ℕ) → links_lts.Need-overflow-add-i (links_calls t) (links_at t) links.Post links_Inv_loop links_μ_loop
-links_add_i t c = omega (arith, c.before.before.before.before.before.before.before.before.before.before.before.before.before.before.before.before.loop-test.true, c.before.before.before.before.before.before.before.before.before.before.before.before.before.before.before.before.before.before.before.before.before.before.ranges.count)
+links_add_i t c = omega (arith, c.before.before.before.before.before.before.before.before.before.before.before.before.before.before.before.loop-test.true, c.before.before.before.before.before.before.before.before.before.before.before.before.before.before.before.before.before.before.before.before.before.ranges.count)
 
 links_loop_again : (t : ℕ) → links_lts.Need-loop-preserved (links_calls t) (links_at t) links.Post links_Inv_loop links_μ_loop
 links_loop_again t c =
-    let i = c.before.before.before.before.before.before.before.before.before.before.before.before.before.before.before.before.before.loop.invariant in
+    let i = c.before.before.before.before.before.before.before.before.before.before.before.before.before.before.before.before.loop.invariant in
     let k = c.before.before.before.before.before.before.before.before.before.walk_data_region.auto.1 in
-    (k.0 ∙ i.0, k.1.0 ∙ i.1, k.1.1.0 ∙ i.2, turn_on _ _ _ _ _ _ _ _ _ _ _ _ i.3 _ _ _ _ _ _ c.before.before.before.before.before.before.before.before.before.before.before.before.before.before.before.before.loop-test.true c.before.before.before.before.before.before.before.before.before.before.before.before.before.before.before.data_link.ensures c.before.before.before.before.before.before.before.before.before.before.before.before.before.before.make_link.ensures (by_follow _ _ _ _ (c.before.before.before.before.before.before.before.before.before.before.before.before.before.follow.ensures _ _ _ i.3.later.within) c.before.before.before.before.before.before.before.before.before.walk_data_region.ensures) _ c.before.r.given.1)
+    (k.0 ∙ i.0, k.1.0 ∙ i.1, k.1.1.0 ∙ i.2, turn_on _ _ _ _ _ _ _ _ _ _ _ _ i.3 _ _ _ _ _ _ c.before.before.before.before.before.before.before.before.before.before.before.before.before.before.before.loop-test.true c.before.before.before.before.before.before.before.before.before.before.before.before.before.before.data_link.ensures c.before.before.before.before.before.before.before.before.before.before.before.before.before.make_link.ensures c.before.before.before.before.before.before.before.before.before.walk_data_region.ensures _ c.before.r.given.1)
 
 links_returns_2 : (t : ℕ) → links_lts.Need-returns-2 (links_calls t) (links_at t) links.Post links_Inv_loop links_μ_loop
 links_returns_2 t c =
@@ -140,22 +139,22 @@ list_data_link_requires : (t : ℕ) → list_lts.Need-data-link-requires (list_c
 list_data_link_requires t c κs = let g = (list_in t c.before.before.before.before.before.before.before.before.before.before.before.before.before).there in omega (arith, g.inside, g.some)
 
 list_region_requires : (t : ℕ) → list_lts.Need-walk-data-region-requires (list_calls t) (list_at t) list.Post
-list_region_requires t c κs = (omega (arith, c.before.before.before.before.before.before.before.before.before.before.before.before.before.before.before.before.before.before.before.before.before.before.before.before.before.before.before.before.before.before.before.before.before.before.before.before.requires.0, (list_in t c.before.before.before.before.before.before.before.before.before.before.before.before.before.before.before.before.before.before.before).deep), (c.before.before.before.follow.ensures _ _ _ (on c.before.before.before.before.before.before.before.r.given.1 c.before.before.before.before.before.before.before.before.before.before.before.before.before.before.before.walk_data_links.ensures).within).later.within)
+list_region_requires t c κs = (omega (arith, c.before.before.before.before.before.before.before.before.before.before.before.before.before.before.before.before.before.before.before.before.before.before.before.before.before.before.before.before.before.before.before.before.before.before.before.requires.0, (list_in t c.before.before.before.before.before.before.before.before.before.before.before.before.before.before.before.before.before.before).deep), (on c.before.before.before.before.before.before.r.given.1 c.before.before.before.before.before.before.before.before.before.before.before.before.before.before.walk_data_links.ensures).within)
 
 list_same_length_7 : (t : ℕ) → list_lts.Need-same-length-7 (list_calls t) (list_at t) list.Post
-list_same_length_7 t c = c.before.before.before.before.before.before.walk_data_region.auto.1.0 ∙ c.before.before.before.before.before.before.before.before.before.before.before.before.before.before.before.before.before.before.before.before.before.before.walk_data_links.auto.1.0 ∙ c.before.before.before.before.before.before.before.before.before.before.before.before.before.before.before.before.before.before.before.before.before.before.before.before.before.before.before.before.before.before.before.before.before.before.before.enter_list.auto.1.0
+list_same_length_7 t c = c.before.before.before.before.before.before.walk_data_region.auto.1.0 ∙ c.before.before.before.before.before.before.before.before.before.before.before.before.before.before.before.before.before.before.before.before.before.walk_data_links.auto.1.0 ∙ c.before.before.before.before.before.before.before.before.before.before.before.before.before.before.before.before.before.before.before.before.before.before.before.before.before.before.before.before.before.before.before.before.before.before.enter_list.auto.1.0
 
 list_same_length_8 : (t : ℕ) → list_lts.Need-same-length-8 (list_calls t) (list_at t) list.Post
-list_same_length_8 t c = c.before.before.before.before.before.before.walk_data_region.auto.1.1.0 ∙ c.before.before.before.before.before.before.before.before.before.before.before.before.before.before.before.before.before.before.before.before.before.before.walk_data_links.auto.1.1.0 ∙ c.before.before.before.before.before.before.before.before.before.before.before.before.before.before.before.before.before.before.before.before.before.before.before.before.before.before.before.before.before.before.before.before.before.before.before.enter_list.auto.1.1.0
+list_same_length_8 t c = c.before.before.before.before.before.before.walk_data_region.auto.1.1.0 ∙ c.before.before.before.before.before.before.before.before.before.before.before.before.before.before.before.before.before.before.before.before.before.walk_data_links.auto.1.1.0 ∙ c.before.before.before.before.before.before.before.before.before.before.before.before.before.before.before.before.before.before.before.before.before.before.before.before.before.before.before.before.before.before.before.before.before.before.enter_list.auto.1.1.0
 
 list_same_length_9 : (t : ℕ) → list_lts.Need-same-length-9 (list_calls t) (list_at t) list.Post
-list_same_length_9 t c = c.before.before.before.before.before.before.walk_data_region.auto.1.1.1.0 ∙ c.before.before.before.before.before.before.before.before.before.before.before.before.before.before.before.before.before.before.before.before.before.before.walk_data_links.auto.1.1.1.0 ∙ c.before.before.before.before.before.before.before.before.before.before.before.before.before.before.before.before.before.before.before.before.before.before.before.before.before.before.before.before.before.before.before.before.before.before.before.enter_list.auto.1.1.1.0
+list_same_length_9 t c = c.before.before.before.before.before.before.walk_data_region.auto.1.1.1.0 ∙ c.before.before.before.before.before.before.before.before.before.before.before.before.before.before.before.before.before.before.before.before.before.walk_data_links.auto.1.1.1.0 ∙ c.before.before.before.before.before.before.before.before.before.before.before.before.before.before.before.before.before.before.before.before.before.before.before.before.before.before.before.before.before.before.before.before.before.before.enter_list.auto.1.1.1.0
 
 list_returns_3 : (t : ℕ) → list_lts.Need-returns-3 (list_calls t) (list_at t) list.Post
 list_returns_3 t c =
-    let g = list_in t c.before.before.before.before.before.before.before.before.before.before.before.before.before.before.before.before.before.before.before.before.before.before.before.before.before.before in
-    let m = on c.before.before.before.before.before.before.before.before.before.before.before.before.before.before.r.given.1 c.before.before.before.before.before.before.before.before.before.before.before.before.before.before.before.before.before.before.before.before.before.before.walk_data_links.ensures in
-    last (by_follow _ _ _ _ (c.before.before.before.before.before.before.before.before.before.before.follow.ensures _ _ _ m.within) c.before.before.before.before.before.before.walk_data_region.ensures) (omega (arith, g.there.later.grew, m.grew)) (g.links_on _ _ _ m.says c.before.before.before.before.before.before.before.before.before.before.before.before.data_link.ensures c.before.before.before.before.before.before.before.before.before.before.before.make_link.ensures)
+    let g = list_in t c.before.before.before.before.before.before.before.before.before.before.before.before.before.before.before.before.before.before.before.before.before.before.before.before.before in
+    let m = on c.before.before.before.before.before.before.before.before.before.before.before.before.before.r.given.1 c.before.before.before.before.before.before.before.before.before.before.before.before.before.before.before.before.before.before.before.before.before.walk_data_links.ensures in
+    last c.before.before.before.before.before.before.walk_data_region.ensures (omega (arith, g.there.later.grew, m.grew)) (g.links_on _ _ _ m.says c.before.before.before.before.before.before.before.before.before.before.before.data_link.ensures c.before.before.before.before.before.before.before.before.before.before.make_link.ensures)
 
 region_returns : (t : ℕ) → region_lts.Need-returns (region_calls t) (region_at t) region.Post
 region_returns t c =
@@ -180,7 +179,6 @@ pub +walk_data_links_walk_data_list_walk_data_region_spec : {M : Type 1} → sta
     links_μ_loop
     (links_loop_holds t)
     (links_data_link_requires t)
-    (λ c κs. search rules)
     (λ c κs. search rules)
     (links_region_requires t)
     (λ c. search rules)
@@ -215,7 +213,6 @@ pub +walk_data_links_walk_data_list_walk_data_region_spec : {M : Type 1} → sta
     (λ c. search rules)
     (list_returns_2 t)
     (list_data_link_requires t)
-    (λ c κs. search rules)
     (λ c κs. search rules)
     (list_region_requires t)
     (list_same_length_7 t)

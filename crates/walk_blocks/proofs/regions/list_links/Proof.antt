@@ -6,7 +6,6 @@ use mathlib.Core.List.{[]}
 use lib.ListN.{length}
 use Rattle.mdf4.specs.Bytes.{words}
 use Rattle.mdf4.specs.Act.{and_then}
-use Rattle.mdf4.specs.Answers.{block_row_words}
 use Rattle.walk_state.proofs.Steps.{stop}
 use Rattle.walk_state.proofs.Room.{room_shown}
 use Rattle.walk_state.proofs.Listing.{after_is, block_listed}
@@ -33,7 +32,7 @@ returns-2 c k h o v t i =
 
 -- what the second test has shown
 shown : (c : tie.After-enum-told3) → (c.before.before.before.before.before.before.before.before.before.before.before.args.block.offset + c.before.before.before.before.before.before.before.before.before.before.before.args.block.size < 2 ^ 64)
-    × (c.before.before.before.before.before.before.before.before.before.before.before.args.w.blocks < length c.before.before.before.before.before.before.before.before.before.before.before.args.blocks.now / block_row_words) × (c.before.before.before.before.before.before.before.before.before.before.before.args.w.links + c.before.before.before.before.before.before.before.before.before.before.before.args.count ≤ length c.before.before.before.before.before.before.before.before.before.before.before.args.links.now / 2)
+    × (c.before.before.before.before.before.before.before.before.before.before.before.args.w.blocks < length c.before.before.before.before.before.before.before.before.before.before.before.args.blocks.now / 12) × (c.before.before.before.before.before.before.before.before.before.before.before.args.w.links + c.before.before.before.before.before.before.before.before.before.before.before.args.count ≤ length c.before.before.before.before.before.before.before.before.before.before.before.args.links.now / 2)
 shown c =
     let a = c.before.before.before.before.before.before.before.before.before.before.before.args in
     room_shown a.block.offset a.block.size a.count a.w [] a.blocks.now a.links.now

@@ -31,9 +31,6 @@ returns-2 c =
 walk_channel_data_requires : tie.Need-walk-channel-data-requires
 walk_channel_data_requires c κs = (on c.before.before.before.before.r1.given.1 c.before.before.before.before.before.before.before.before.before.before.before.before.walk_channel_texts.ensures).within
 
-same_length_6 : tie.Need-same-length-6
-same_length_6 c = c.before.before.before.before.before.before.before.walk_channel_data.auto.1.0 ∙ c.before.before.before.before.before.before.before.before.before.before.before.before.before.before.before.before.before.before.before.before.walk_channel_texts.auto.1.0
-
 same_length_7 : tie.Need-same-length-7
 same_length_7 c = c.before.before.before.before.before.before.before.walk_channel_data.auto.1.1.0 ∙ c.before.before.before.before.before.before.before.before.before.before.before.before.before.before.before.before.before.before.before.before.walk_channel_texts.auto.1.1.0 ∙ c.before.before.before.before.before.before.before.before.before.before.before.before.before.before.before.before.before.before.before.before.before.before.before.before.before.before.before.before.before.before.before.open_channel.auto.1.0
 
@@ -45,7 +42,7 @@ returns-3 c =
     let a = c.before.before.before.before.before.before.before.before.before.before.before.before.before.before.before.before.before.before.before.before.before.before.before.before.before.before.before.before.before.before.before.before.before.before.before.before.before.before.args in
     let t = opened c.before.before.before.before.before.before.before.before.before.before.before.before.before.before.before.before.before.before.before.before.before.before.before.before.before.r.given.1 (c.before.before.before.before.before.before.before.before.before.before.before.before.before.before.before.before.before.before.before.before.before.before.before.before.before.before.before.before.before.before.before.open_channel.ensures _ c.before.before.before.before.before.before.before.before.before.before.before.before.before.before.before.before.before.before.before.before.before.before.before.before.before.before.before.before.before.before.before.before.before.before.before.before.before.before.requires) in
     let m = on c.before.before.before.before.before.before.before.before.before.before.before.before.r1.given.1 c.before.before.before.before.before.before.before.before.before.before.before.before.before.before.before.before.before.before.before.before.walk_channel_texts.ensures in
-    rw c.to_next2.ensures (next_last (next_met _ _ _ c.before.before.before.before.before.before.before.walk_channel_data.ensures) (omega (arith, t.later.grew, m.grew)) (data_last a.addr a.file.now _ _ _ t.entered _ m.says _ (omega arith)))
+    rw c.to_next2.ensures (next_last (next_met _ _ c.before.before.before.before.before.before.before.walk_channel_data.ensures) (omega (arith, t.later.grew, m.grew)) (data_last a.addr a.file.now _ _ _ t.entered _ m.says _ (omega arith)))
 
 pub enter_channel_spec : {M : Type 1} → statement M
 enter_channel_spec =
@@ -68,7 +65,7 @@ enter_channel_spec =
     returns-2
     walk_channel_data_requires
     (λ c κs. search rules)
-    same_length_6
+    (λ c. search rules)
     same_length_7
     same_length_8
     returns-3)

@@ -1,7 +1,6 @@
 -- `walk_channel_source` meets its contract: the first refusal, or the conversion's answer.
-use mathlib.Core.Path.{ap, ◌∙◌}
+use mathlib.Core.Path.{ap}
 use native.Mathlib.Omega.{arith}
-use Rattle.mdf4.specs.Act.{by_link}
 use Rattle.mdf4.specs.Walk.{walk_text_like, walk_source, walk_conversion}
 use Rattle.walk_state.specs.Held.{said}
 use Rattle.walk_state.proofs.Steps.{on, off, stop, last}
@@ -17,37 +16,28 @@ returns c =
     let a = c.before.before.before.before.before.before.before.before.before.before.before.before.before.before.before.before.args in
     let x = a.channel in
     let e = c.enum_told.given.1 in
-    stop e (first_off (by_link a.addr 2 (walk_text_like x.name_addr)) (by_link a.addr 3 (walk_source x.source_addr)) (by_link a.addr 4 (walk_conversion a.addr x.conversion_addr)) a.file.now _ _ (off e c.before.before.before.before.before.before.before.before.follow_text.ensures))
+    stop e (first_off (walk_text_like x.name_addr) (walk_source x.source_addr) (walk_conversion a.addr x.conversion_addr) a.file.now _ _ (off e c.before.before.before.before.before.before.before.before.walk_text_like.ensures))
 
-follow_source_requires : tie.Need-follow-source-requires
-follow_source_requires c κs = (on c.before.before.before.before.r1.given.1 c.before.before.before.before.before.before.before.before.before.before.before.before.follow_text.ensures).within
+walk_source_requires : tie.Need-walk-source-requires
+walk_source_requires c κs = (on c.before.before.before.before.r1.given.1 c.before.before.before.before.before.before.before.before.before.before.before.before.walk_text_like.ensures).within
 
 returns-2 : tie.Need-returns-2
 unfolding channel_source
 returns-2 c =
     let a = c.before.before.before.before.before.before.before.before.before.before.before.before.before.before.before.before.before.before.before.before.before.before.before.before.before.before.before.before.before.args in
     let x = a.channel in
-    let m = on c.before.before.before.before.before.before.before.before.before.before.before.before.before.r1.given.1 c.before.before.before.before.before.before.before.before.before.before.before.before.before.before.before.before.before.before.before.before.before.follow_text.ensures in
+    let m = on c.before.before.before.before.before.before.before.before.before.before.before.before.before.r1.given.1 c.before.before.before.before.before.before.before.before.before.before.before.before.before.before.before.before.before.before.before.before.before.walk_text_like.ensures in
     let e = c.enum_told2.given.1 in
-    stop e (second_off (by_link a.addr 2 (walk_text_like x.name_addr)) (by_link a.addr 3 (walk_source x.source_addr)) (by_link a.addr 4 (walk_conversion a.addr x.conversion_addr)) a.file.now _ _ m.says _ (off e c.before.before.before.before.before.before.before.before.follow_source.ensures))
-
-same_length_7 : tie.Need-same-length-7
-same_length_7 c = c.before.before.before.before.before.before.before.before.before.before.before.follow_source.auto.1.0 ∙ c.before.before.before.before.before.before.before.before.before.before.before.before.before.before.before.before.before.before.before.before.before.before.before.before.follow_text.auto.1.0
-
-same_length_8 : tie.Need-same-length-8
-same_length_8 c = c.before.before.before.before.before.before.before.before.before.before.before.follow_source.auto.1.1.0 ∙ c.before.before.before.before.before.before.before.before.before.before.before.before.before.before.before.before.before.before.before.before.before.before.before.before.follow_text.auto.1.1.0
-
-same_length_9 : tie.Need-same-length-9
-same_length_9 c = c.before.before.before.before.before.before.before.before.before.before.before.follow_source.auto.1.1.1.0 ∙ c.before.before.before.before.before.before.before.before.before.before.before.before.before.before.before.before.before.before.before.before.before.before.before.before.follow_text.auto.1.1.1.0
+    stop e (second_off (walk_text_like x.name_addr) (walk_source x.source_addr) (walk_conversion a.addr x.conversion_addr) a.file.now _ _ m.says _ (off e c.before.before.before.before.before.before.before.before.walk_source.ensures))
 
 returns-3 : tie.Need-returns-3
 unfolding channel_source
 returns-3 c =
     let a = c.before.before.before.before.before.before.before.before.before.before.before.before.before.before.before.before.before.before.before.before.before.before.before.before.before.before.before.before.before.before.before.before.args in
     let x = a.channel in
-    let m = on c.before.before.before.before.before.before.before.before.before.before.before.before.before.before.before.before.r1.given.1 c.before.before.before.before.before.before.before.before.before.before.before.before.before.before.before.before.before.before.before.before.before.before.before.before.follow_text.ensures in
-    let n = on c.before.before.before.r2.given.1 c.before.before.before.before.before.before.before.before.before.before.before.follow_source.ensures in
-    last (c.follow_conversion.ensures a.file.now _ _ n.within) (omega (arith, m.grew, n.grew)) (ap said (third (by_link a.addr 2 (walk_text_like x.name_addr)) (by_link a.addr 3 (walk_source x.source_addr)) (by_link a.addr 4 (walk_conversion a.addr x.conversion_addr)) a.file.now _ _ m.says _ n.says))
+    let m = on c.before.before.before.before.before.before.before.before.before.before.before.before.before.before.before.before.r1.given.1 c.before.before.before.before.before.before.before.before.before.before.before.before.before.before.before.before.before.before.before.before.before.before.before.before.walk_text_like.ensures in
+    let n = on c.before.before.before.r2.given.1 c.before.before.before.before.before.before.before.before.before.before.before.walk_source.ensures in
+    last (c.walk_conversion.ensures a.file.now _ _ n.within) (omega (arith, m.grew, n.grew)) (ap said (third (walk_text_like x.name_addr) (walk_source x.source_addr) (walk_conversion a.addr x.conversion_addr) a.file.now _ _ m.says _ n.says))
 
 pub walk_channel_source_spec : {M : Type 1} → statement M
 walk_channel_source_spec =
@@ -60,7 +50,7 @@ walk_channel_source_spec =
     (λ c. search rules)
     (λ c. search rules)
     returns
-    follow_source_requires
+    walk_source_requires
     (λ c. search rules)
     (λ c. search rules)
     (λ c. search rules)
@@ -68,7 +58,7 @@ walk_channel_source_spec =
     (λ c. search rules)
     returns-2
     (λ c κs. search rules)
-    same_length_7
-    same_length_8
-    same_length_9
+    (λ c. search rules)
+    (λ c. search rules)
+    (λ c. search rules)
     returns-3)

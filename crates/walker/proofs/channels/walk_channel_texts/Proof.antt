@@ -1,7 +1,6 @@
 -- `walk_channel_texts` meets its contract: the first refusal, or the comment's answer.
 use mathlib.Core.Path.{ap, ◌∙◌}
 use native.Mathlib.Omega.{arith}
-use Rattle.mdf4.specs.Act.{by_link}
 use Rattle.mdf4.specs.Walk.{walk_text_like}
 use Rattle.walk_state.specs.Held.{said}
 use Rattle.walk_state.proofs.Steps.{on, off, stop, last}
@@ -17,10 +16,10 @@ returns c =
     let a = c.before.before.before.before.before.before.before.before.before.before.before.before.before.before.before.before.args in
     let x = a.channel in
     let e = c.enum_told.given.1 in
-    stop e (first_off (channel_source a.addr x) (by_link a.addr 6 (walk_text_like x.unit_addr)) (by_link a.addr 7 (walk_text_like x.comment_addr)) a.file.now _ _ (off e c.before.before.before.before.before.before.before.before.walk_channel_source.ensures))
+    stop e (first_off (channel_source a.addr x) (walk_text_like x.unit_addr) (walk_text_like x.comment_addr) a.file.now _ _ (off e c.before.before.before.before.before.before.before.before.walk_channel_source.ensures))
 
-follow_text_requires : tie.Need-follow-text-requires
-follow_text_requires c κs = (on c.before.before.before.before.r1.given.1 c.before.before.before.before.before.before.before.before.before.before.before.before.walk_channel_source.ensures).within
+walk_text_like_requires : tie.Need-walk-text-like-requires
+walk_text_like_requires c κs = (on c.before.before.before.before.r1.given.1 c.before.before.before.before.before.before.before.before.before.before.before.before.walk_channel_source.ensures).within
 
 returns-2 : tie.Need-returns-2
 unfolding channel_texts
@@ -29,19 +28,16 @@ returns-2 c =
     let x = a.channel in
     let m = on c.before.before.before.before.before.before.before.before.before.before.before.before.before.r1.given.1 c.before.before.before.before.before.before.before.before.before.before.before.before.before.before.before.before.before.before.before.before.before.walk_channel_source.ensures in
     let e = c.enum_told2.given.1 in
-    stop e (second_off (channel_source a.addr x) (by_link a.addr 6 (walk_text_like x.unit_addr)) (by_link a.addr 7 (walk_text_like x.comment_addr)) a.file.now _ _ m.says _ (off e c.before.before.before.before.before.before.before.before.follow_text.ensures))
+    stop e (second_off (channel_source a.addr x) (walk_text_like x.unit_addr) (walk_text_like x.comment_addr) a.file.now _ _ m.says _ (off e c.before.before.before.before.before.before.before.before.walk_text_like.ensures))
 
-follow_text_requires_2 : tie.Need-follow-text-requires-2
-follow_text_requires_2 c κs = (on c.before.before.before.before.r2.given.1 c.before.before.before.before.before.before.before.before.before.before.before.before.follow_text.ensures).within
+walk_text_like_requires_2 : tie.Need-walk-text-like-requires-2
+walk_text_like_requires_2 c κs = (on c.before.before.before.before.r2.given.1 c.before.before.before.before.before.before.before.before.before.before.before.before.walk_text_like.ensures).within
 
 same_length_7 : tie.Need-same-length-7
-same_length_7 c = c.before.before.before.before.before.before.follow_text2.auto.1.0 ∙ c.before.before.before.before.before.before.before.before.before.before.before.before.before.before.before.before.before.before.before.follow_text.auto.1.0 ∙ c.before.before.before.before.before.before.before.before.before.before.before.before.before.before.before.before.before.before.before.before.before.before.before.before.before.before.before.before.before.before.before.before.walk_channel_source.auto.1.0
+same_length_7 c = c.before.before.before.before.before.before.walk_text_like2.auto.1.0 ∙ c.before.before.before.before.before.before.before.before.before.before.before.before.before.before.before.before.before.before.before.walk_text_like.auto.1.0 ∙ c.before.before.before.before.before.before.before.before.before.before.before.before.before.before.before.before.before.before.before.before.before.before.before.before.before.before.before.before.before.before.before.before.walk_channel_source.auto.1.0
 
 same_length_8 : tie.Need-same-length-8
-same_length_8 c = c.before.before.before.before.before.before.follow_text2.auto.1.1.0 ∙ c.before.before.before.before.before.before.before.before.before.before.before.before.before.before.before.before.before.before.before.follow_text.auto.1.1.0 ∙ c.before.before.before.before.before.before.before.before.before.before.before.before.before.before.before.before.before.before.before.before.before.before.before.before.before.before.before.before.before.before.before.before.walk_channel_source.auto.1.1.0
-
-same_length_9 : tie.Need-same-length-9
-same_length_9 c = c.before.before.before.before.before.before.follow_text2.auto.1.1.1.0 ∙ c.before.before.before.before.before.before.before.before.before.before.before.before.before.before.before.before.before.before.before.follow_text.auto.1.1.1.0 ∙ c.before.before.before.before.before.before.before.before.before.before.before.before.before.before.before.before.before.before.before.before.before.before.before.before.before.before.before.before.before.before.before.before.walk_channel_source.auto.1.1.1.0
+same_length_8 c = c.before.before.before.before.before.before.walk_text_like2.auto.1.1.0 ∙ c.before.before.before.before.before.before.before.before.before.before.before.before.before.before.before.before.before.before.before.walk_text_like.auto.1.1.0 ∙ c.before.before.before.before.before.before.before.before.before.before.before.before.before.before.before.before.before.before.before.before.before.before.before.before.before.before.before.before.before.before.before.before.walk_channel_source.auto.1.1.0
 
 returns-3 : tie.Need-returns-3
 unfolding channel_texts
@@ -49,8 +45,8 @@ returns-3 c =
     let a = c.before.before.before.before.before.before.before.before.before.before.before.before.before.before.before.before.before.before.before.before.before.before.before.before.before.before.before.before.before.before.before.before.before.before.before.before.before.before.before.before.args in
     let x = a.channel in
     let m = on c.before.before.before.before.before.before.before.before.before.before.before.before.before.before.before.before.before.before.before.before.before.before.before.before.r1.given.1 c.before.before.before.before.before.before.before.before.before.before.before.before.before.before.before.before.before.before.before.before.before.before.before.before.before.before.before.before.before.before.before.before.walk_channel_source.ensures in
-    let n = on c.before.before.before.before.before.before.before.before.before.before.before.r2.given.1 c.before.before.before.before.before.before.before.before.before.before.before.before.before.before.before.before.before.before.before.follow_text.ensures in
-    last c.before.before.before.before.before.before.follow_text2.ensures (omega (arith, m.grew, n.grew)) (ap said (third (channel_source a.addr x) (by_link a.addr 6 (walk_text_like x.unit_addr)) (by_link a.addr 7 (walk_text_like x.comment_addr)) a.file.now _ _ m.says _ n.says))
+    let n = on c.before.before.before.before.before.before.before.before.before.before.before.r2.given.1 c.before.before.before.before.before.before.before.before.before.before.before.before.before.before.before.before.before.before.before.walk_text_like.ensures in
+    last c.before.before.before.before.before.before.walk_text_like2.ensures (omega (arith, m.grew, n.grew)) (ap said (third (channel_source a.addr x) (walk_text_like x.unit_addr) (walk_text_like x.comment_addr) a.file.now _ _ m.says _ n.says))
 
 pub walk_channel_texts_spec : {M : Type 1} → statement M
 walk_channel_texts_spec =
@@ -63,15 +59,15 @@ walk_channel_texts_spec =
     (λ c. search rules)
     (λ c. search rules)
     returns
-    follow_text_requires
+    walk_text_like_requires
     (λ c. search rules)
     (λ c. search rules)
     (λ c. search rules)
     (λ c. search rules)
     (λ c. search rules)
     returns-2
-    follow_text_requires_2
+    walk_text_like_requires_2
     same_length_7
     same_length_8
-    same_length_9
+    (λ c. search rules)
     returns-3)

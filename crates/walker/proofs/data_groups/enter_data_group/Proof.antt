@@ -38,7 +38,7 @@ returns-3 c fuel h =
     let t = group_told a.file.now a.addr (told_as data_group_block_read c.before.before.before.before.before.before.before.before.before.before.before.before.before.before.before.before.before.before.before.before.before.before.before.before.read.given.1 c.before.before.before.before.before.before.before.before.before.before.before.before.before.before.before.before.before.before.before.before.before.before.before.before.before.before.parse.ensures) in
     let f = rw c.before.before.before.before.before.before.before.before.before.before.before.before.before.before.before.before.before.before.before.before.before.before.plain_block.ensures at c.before.before.before.before.before.before.before.before.before.before.before.before.before.before.before.before.before.before.list_block.ensures in
     let m = on c.before.before.before.before.before.before.before.before.before.before.before.before.r1.given.1 (f DG (no_records 0) t.own a.visited.now (group_tells a.file.now a.addr _ t) c.before.before.before.before.before.before.before.before.before.before.before.before.before.before.before.before.before.before.before.before.before.before.before.before.before.before.before.before.before.before.before.requires) in
-    rw c.to_next2.ensures (next_last (next_met _ _ _ (c.before.before.before.before.before.before.before.walk_data_group_links.ensures fuel h)) (omega (arith, m.grew)) (group_last a.file.now a.addr _ t fuel _ _ m.says _ (omega arith)))
+    rw c.to_next2.ensures (next_last (next_met _ _ (c.before.before.before.before.before.before.before.walk_data_group_links.ensures fuel h)) (omega (arith, m.grew)) (group_last a.file.now a.addr _ t fuel _ _ m.says _ (omega arith)))
 
 pub enter_data_group_spec : {M : Type 1} → statement M
 enter_data_group_spec =

@@ -12,39 +12,39 @@ returns : tie.Need-returns
 returns c fuel h =
     let a = c.before.before.before.before.before.before.before.before.before.before.before.before.before.before.before.before.args in
     let e = c.enum_told.given.1 in
-    stop e (links_first a.addr fuel a.group.record_id_len a.group.comment_addr a.group.first_cg_addr a.group.data_block_addr a.file.now _ _ (off e c.before.before.before.before.before.before.before.before.follow_text.ensures))
+    stop e (links_first fuel a.group.record_id_len a.group.comment_addr a.group.first_cg_addr a.group.data_block_addr a.file.now _ _ (off e c.before.before.before.before.before.before.before.before.walk_text_like.ensures))
 
-follow_channel_groups_requires : tie.Need-follow-channel-groups-requires
-follow_channel_groups_requires c κs = (on c.before.before.before.before.r1.given.1 c.before.before.before.before.before.before.before.before.before.before.before.before.follow_text.ensures).within
+walk_channel_groups_requires : tie.Need-walk-channel-groups-requires
+walk_channel_groups_requires c κs = (on c.before.before.before.before.r1.given.1 c.before.before.before.before.before.before.before.before.before.before.before.before.walk_text_like.ensures).within
 
 returns-2 : tie.Need-returns-2
 returns-2 c fuel h =
     let a = c.before.before.before.before.before.before.before.before.before.before.before.before.before.before.before.before.before.before.before.before.before.before.before.before.before.before.before.before.before.before.args in
-    let m = on c.before.before.before.before.before.before.before.before.before.before.before.before.before.before.r1.given.1 c.before.before.before.before.before.before.before.before.before.before.before.before.before.before.before.before.before.before.before.before.before.before.follow_text.ensures in
+    let m = on c.before.before.before.before.before.before.before.before.before.before.before.before.before.before.r1.given.1 c.before.before.before.before.before.before.before.before.before.before.before.before.before.before.before.before.before.before.before.before.before.before.walk_text_like.ensures in
     let e = c.before.enum_told2.given.1 in
-    let g = groups_off e (c.before.before.before.before.before.before.before.before.before.follow_channel_groups.ensures fuel (omega (arith, h, c.before.before.before.before.before.before.before.before.before.before.before.before.before.before.before.before.before.before.before.before.before.before.follow_text.auto.1.0))) in
-    stop (rw e at c.without_layout.ensures) (links_second a.addr fuel a.group.record_id_len a.group.comment_addr a.group.first_cg_addr a.group.data_block_addr a.file.now _ _ m.says _ g)
+    let g = groups_off e (c.before.before.before.before.before.before.before.before.before.walk_channel_groups.ensures fuel (omega (arith, h, c.before.before.before.before.before.before.before.before.before.before.before.before.before.before.before.before.before.before.before.before.before.before.walk_text_like.auto.1.0))) in
+    stop (rw e at c.without_layout.ensures) (links_second fuel a.group.record_id_len a.group.comment_addr a.group.first_cg_addr a.group.data_block_addr a.file.now _ _ m.says _ g)
 
-follow_region_requires : tie.Need-follow-region-requires
-follow_region_requires c κs =
+walk_data_region_requires : tie.Need-walk-data-region-requires
+walk_data_region_requires c κs =
     let a = c.before.before.before.before.before.before.before.before.before.before.before.before.before.before.before.before.before.before.before.before.before.before.before.before.before.before.before.before.before.before.before.before.before.before.before.args in
-    (groups_on c.before.before.before.before.before.before.r2.given.1 (c.before.before.before.before.before.before.before.before.before.before.before.before.before.before.follow_channel_groups.ensures (length a.visited.now) (omega (arith, c.before.before.before.before.before.before.before.before.before.before.before.before.before.before.before.before.before.before.before.before.before.before.before.before.before.before.before.follow_text.auto.1.0)))).later.within
+    (groups_on c.before.before.before.before.before.before.r2.given.1 (c.before.before.before.before.before.before.before.before.before.before.before.before.before.before.walk_channel_groups.ensures (length a.visited.now) (omega (arith, c.before.before.before.before.before.before.before.before.before.before.before.before.before.before.before.before.before.before.before.before.before.before.before.before.before.before.before.walk_text_like.auto.1.0)))).later.within
 
 same_length_7 : tie.Need-same-length-7
-same_length_7 c = c.before.before.before.before.before.before.follow_region.auto.1.0 ∙ c.before.before.before.before.before.before.before.before.before.before.before.before.before.before.before.before.before.before.before.before.before.follow_channel_groups.auto.1.0 ∙ c.before.before.before.before.before.before.before.before.before.before.before.before.before.before.before.before.before.before.before.before.before.before.before.before.before.before.before.before.before.before.before.before.before.before.follow_text.auto.1.0
+same_length_7 c = c.before.before.before.before.before.before.walk_data_region.auto.1.0 ∙ c.before.before.before.before.before.before.before.before.before.before.before.before.before.before.before.before.before.before.before.before.before.walk_channel_groups.auto.1.0 ∙ c.before.before.before.before.before.before.before.before.before.before.before.before.before.before.before.before.before.before.before.before.before.before.before.before.before.before.before.before.before.before.before.before.before.before.walk_text_like.auto.1.0
 
 same_length_8 : tie.Need-same-length-8
-same_length_8 c = c.before.before.before.before.before.before.follow_region.auto.1.1.0 ∙ c.before.before.before.before.before.before.before.before.before.before.before.before.before.before.before.before.before.before.before.before.before.follow_channel_groups.auto.1.1.0 ∙ c.before.before.before.before.before.before.before.before.before.before.before.before.before.before.before.before.before.before.before.before.before.before.before.before.before.before.before.before.before.before.before.before.before.before.follow_text.auto.1.1.0
+same_length_8 c = c.before.before.before.before.before.before.walk_data_region.auto.1.1.0 ∙ c.before.before.before.before.before.before.before.before.before.before.before.before.before.before.before.before.before.before.before.before.before.walk_channel_groups.auto.1.1.0 ∙ c.before.before.before.before.before.before.before.before.before.before.before.before.before.before.before.before.before.before.before.before.before.before.before.before.before.before.before.before.before.before.before.before.before.before.walk_text_like.auto.1.1.0
 
 same_length_9 : tie.Need-same-length-9
-same_length_9 c = c.before.before.before.before.before.before.follow_region.auto.1.1.1.0 ∙ c.before.before.before.before.before.before.before.before.before.before.before.before.before.before.before.before.before.before.before.before.before.follow_channel_groups.auto.1.1.1.0 ∙ c.before.before.before.before.before.before.before.before.before.before.before.before.before.before.before.before.before.before.before.before.before.before.before.before.before.before.before.before.before.before.before.before.before.before.follow_text.auto.1.1.1.0
+same_length_9 c = c.before.before.before.before.before.before.walk_data_region.auto.1.1.1.0 ∙ c.before.before.before.before.before.before.before.before.before.before.before.before.before.before.before.before.before.before.before.before.before.walk_channel_groups.auto.1.1.1.0 ∙ c.before.before.before.before.before.before.before.before.before.before.before.before.before.before.before.before.before.before.before.before.before.before.before.before.before.before.before.before.before.before.before.before.before.before.walk_text_like.auto.1.1.1.0
 
 returns-3 : tie.Need-returns-3
 returns-3 c fuel h =
     let a = c.before.before.before.before.before.before.before.before.before.before.before.before.before.before.before.before.before.before.before.before.before.before.before.before.before.before.before.before.before.before.before.before.before.before.before.before.before.before.before.before.before.before.args in
-    let m = on c.before.before.before.before.before.before.before.before.before.before.before.before.before.before.before.before.before.before.before.before.before.before.before.before.before.before.r1.given.1 c.before.before.before.before.before.before.before.before.before.before.before.before.before.before.before.before.before.before.before.before.before.before.before.before.before.before.before.before.before.before.before.before.before.before.follow_text.ensures in
-    let g = groups_on c.before.before.before.before.before.before.before.before.before.before.before.before.before.r2.given.1 (c.before.before.before.before.before.before.before.before.before.before.before.before.before.before.before.before.before.before.before.before.before.follow_channel_groups.ensures fuel (omega (arith, h, c.before.before.before.before.before.before.before.before.before.before.before.before.before.before.before.before.before.before.before.before.before.before.before.before.before.before.before.before.before.before.before.before.before.before.follow_text.auto.1.0))) in
-    last c.before.before.before.before.before.before.follow_region.ensures (omega (arith, m.grew, g.later.grew)) (links_third a.addr fuel a.group.record_id_len a.group.comment_addr a.group.first_cg_addr a.group.data_block_addr a.file.now _ _ m.says _ _ g.says _ c.before.before.before.before.before.before.before.before.before.before.before.make_link.ensures)
+    let m = on c.before.before.before.before.before.before.before.before.before.before.before.before.before.before.before.before.before.before.before.before.before.before.before.before.before.before.r1.given.1 c.before.before.before.before.before.before.before.before.before.before.before.before.before.before.before.before.before.before.before.before.before.before.before.before.before.before.before.before.before.before.before.before.before.before.walk_text_like.ensures in
+    let g = groups_on c.before.before.before.before.before.before.before.before.before.before.before.before.before.r2.given.1 (c.before.before.before.before.before.before.before.before.before.before.before.before.before.before.before.before.before.before.before.before.before.walk_channel_groups.ensures fuel (omega (arith, h, c.before.before.before.before.before.before.before.before.before.before.before.before.before.before.before.before.before.before.before.before.before.before.before.before.before.before.before.before.before.before.before.before.before.before.walk_text_like.auto.1.0))) in
+    last c.before.before.before.before.before.before.walk_data_region.ensures (omega (arith, m.grew, g.later.grew)) (links_third fuel a.group.record_id_len a.group.comment_addr a.group.first_cg_addr a.group.data_block_addr a.file.now _ _ m.says _ _ g.says _ c.before.before.before.before.before.before.before.before.before.before.before.make_link.ensures)
 
 pub walk_data_group_links_spec : {M : Type 1} → statement M
 walk_data_group_links_spec =
@@ -57,7 +57,7 @@ walk_data_group_links_spec =
     (λ c. search rules)
     (λ c. search rules)
     returns
-    follow_channel_groups_requires
+    walk_channel_groups_requires
     (λ c. search rules)
     (λ c. search rules)
     (λ c κs. search rules)
@@ -67,7 +67,7 @@ walk_data_group_links_spec =
     returns-2
     (λ c κs. search rules)
     (λ c. search rules)
-    follow_region_requires
+    walk_data_region_requires
     same_length_7
     same_length_8
     same_length_9

@@ -33,7 +33,7 @@ returns-3 c fuel got h =
     let g = group_read a.file.now a.addr (told_as channel_group_block_read c.before.before.before.before.before.before.before.before.before.before.before.before.before.before.before.before.before.before.before.before.before.before.before.before.read.given.1 c.before.before.before.before.before.before.before.before.before.before.before.before.before.before.before.before.before.before.before.before.before.before.before.before.before.before.parse.ensures) in
     let m = on c.before.before.before.before.before.before.before.before.before.before.before.before.before.before.r1.given.1 (c.before.before.before.before.before.before.before.before.before.before.before.before.before.before.before.before.before.before.before.before.list_channel_group.ensures g.0 a.visited.now g.1 c.before.before.before.before.before.before.before.before.before.before.before.before.before.before.before.before.before.before.before.before.before.before.before.before.before.before.before.before.before.before.before.requires) in
     rw c.to_grouped2.ensures
-    (grouped_last (grouped_met _ _ _ _ _ (c.before.before.before.before.before.before.before.before.before.walk_channel_group_links.ensures fuel h)) m.grew
+    (grouped_last (grouped_met _ _ _ _ (c.before.before.before.before.before.before.before.before.before.walk_channel_group_links.ensures fuel h)) m.grew
     (group_last fuel a.record_id_len a.addr got a.file.now _ _ g.0 g.1 _ m.says _ _ c.before.before.record_size.ensures c.before.wide.ensures))
 
 pub enter_channel_group_spec : {M : Type 1} → statement M
