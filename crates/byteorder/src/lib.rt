@@ -1,4 +1,5 @@
 // Little-endian numbers of a slice at an offset, as Rust's crate byteorder reads them.
+#![tactic(auto)]
 ghost use Rattle.std.specs.Prelude.{◌≡◌, ◌+◌, ◌≤◌, length};
 ghost use Rattle.fmt.specs.Digits.{i16_of};
 ghost use Rattle.mdf4.specs.Bytes.{num};

@@ -1,4 +1,5 @@
 // The CLR bytes of the clear list of the recording on standard input, as `listing` prints its listing.
+#![tactic(auto)]
 use libc::STDIN_FILENO;
 
 fn main() {

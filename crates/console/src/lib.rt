@@ -1,6 +1,7 @@
 // What the programs do: each reads a recording of 65,536 bytes at most and prints what an entry makes of it, a refusal's four
 // numbers, or that the recording is too long. Each table and the output has 65,536 bytes. The recording is read from a file
 // descriptor, so that the program `programs` runs the same code on the files beside it.
+#![tactic(auto)]
 use block_layout::Answer;
 use blocks::error::MdfError;
 use libc::STDOUT_FILENO;

@@ -1,5 +1,6 @@
 // Replays recorded answers of Rust's own texts and numbers: standard input is what tools/leaves.rs wrote. Prints the place of each
 // record that is answered otherwise, and how many there are.
+#![tactic(auto)]
 ghost use Rattle.std.specs.Prelude.{◌+◌, ◌≤◌, length};
 ghost use Rattle.leaves.specs.Onward.{Onward};
 

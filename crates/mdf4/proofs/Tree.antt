@@ -1,5 +1,5 @@
 -- An accepted tree has printed every listed block, so that every tree mark is 1.
-use mathlib.Core.Path.{◌≡◌, refl, sym, ap}
+use mathlib.Core.Path.{◌≡◌, refl, sym, ap, subst}
 use mathlib.Core.Bool.{Bool, true, false}
 use mathlib.Core.List.{List, [], ◌∷◌, ◌++◌}
 use Prim.Native.Nat.{ℕ, zero, suc}
@@ -95,7 +95,7 @@ module _ (r : List ℕ) (y : Layout) where
       let b = before_ok q.0.0 (roots r y ws q.0.1) p q.2 in
       let own = root_printed w v (elem w.off v) refl q.0 q.1 in (
         rw (← b.2) ((keeps_roots ws q.0.1).kept b.0 b.1 w.off own),
-        rw (← b.2) (roots_printed ws q.0.1 b.0 b.1),
+        subst (λ (x : List ℕ). All (λ w. elem w.off x ≡ true) ws) b.2 (roots_printed ws q.0.1 b.0 b.1),
       )
 
   pub all_printed : (p : Printed) → to_tree r y ≡ ok p → All (λ w. elem w.off p.1 ≡ true) y.blocks

@@ -61,7 +61,7 @@ describe_of CN w o n =
     ++ data_type_name (num o 90 1) ++ format (ascii ", %b @ byte=% bit=%)") (num o 96 4 ∷ num o 92 4 ∷ num o 91 1 ∷ [])
 describe_of SI w o n =
     format (ascii "Source (type=%, bus_type=%, flags=0x&)") (num o (data_at o) 1 ∷ num o (data_at o + 1) 1 ∷ num o (data_at o + 2) 1 ∷ [])
-describe_of TX w o n = ascii "Text: \"" ++ preview 48 (chunks (tx-text o)) ++ format (ascii "\" (% chars)") (char_count (tx_text o) ∷ [])
+describe_of TX w o n = ascii "Text: \"" ++ preview 48 (chunks (tx_text o)) ++ format (ascii "\" (% chars)") (char_count (tx_text o) ∷ [])
 describe_of MD w o n =
     format (ascii "Metadata (XML, % chars): ") (min (length (lossy (md_text o))) u64_max ∷ []) ++ preview 48 (map unlined (chunks (md_text o)))
 describe_of DT w o n = format (ascii "Data block (% payload bytes)") (payload w ∷ [])

@@ -1,5 +1,6 @@
 // Runs what the programs `listing`, `tree` and `clear` do on each recording that its arguments name: refused, unfinalised and too long
 // ones, and ones at the limits. tools/programs.py wrote the recordings and what is to be printed.
+#![tactic(auto)]
 use libc::STDOUT_FILENO;
 
 const LISTING: u8 = 0;

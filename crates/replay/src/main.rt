@@ -2,6 +2,7 @@
 // called with tables, counts and an output lent exactly, with more than enough that is not a whole number of rows, and with each one short.
 // All of it is done again with the recording that the blanker leaves, but for unfinalised ones. Before each call all lent memory is filled
 // with ones. Prints the place of each recording that is answered otherwise, and how many there are.
+#![tactic(auto)]
 ghost use Rattle.std.specs.Prelude.{◌≤◌, length};
 ghost use Rattle.replay.specs.Parts.{Ordered};
 

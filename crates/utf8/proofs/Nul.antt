@@ -1,5 +1,5 @@
 -- NULs come off before or after decoding, with one result: a NUL byte is always a character by itself (`nuls-first`).
-use mathlib.Core.Path.{◌≡◌, refl, ap, ◌∙◌}
+use mathlib.Core.Path.{◌≡◌, refl, sym, ap, subst, ◌∙◌}
 use mathlib.Core.Bool.{Bool, true, false, cond}
 use mathlib.Core.List.{List, [], ◌∷◌, ◌++◌, append-nil}
 use Prim.Native.Nat.{ℕ, zero, suc, pred, ◌≤◌, ◌<◌}
@@ -105,15 +105,36 @@ unfolding trim_end_nuls is_nul
 trim_pad s zero = refl
 trim_pad s (suc k) = drop_end_pass is_nul (pad s k) 0 refl ∙ trim_pad s k
 
+nul_is : (x : ℕ) → is_nul x ≡ true → x ≡ 0
+unfolding is_nul
+nul_is x n = eqb-true x 0 n
+
+keep_none : (x : ℕ) → is_nul x ≡ true → keep is_nul x [] ≡ []
+unfolding keep
+keep_none x n = rw n refl
+
+keep_last : (x : ℕ) → is_nul x ≡ false → keep is_nul x [] ≡ x ∷ []
+unfolding keep
+keep_last x n = rw n refl
+
+keep_before : (x y : ℕ) (ys : List ℕ) → keep is_nul x (y ∷ ys) ≡ x ∷ y ∷ ys
+unfolding keep
+keep_before x y ys = refl
+
+-- one byte more in front of `d` and NULs
+kept_more : (x : ℕ) (d : List ℕ) (k : ℕ) (b : Bool) → is_nul x ≡ b → (j : ℕ) × (x ∷ pad d k ≡ pad (keep is_nul x d) j)
+kept_more x [] k true n =
+    (suc k, subst (λ (l : List ℕ). x ∷ pad [] k ≡ pad l (suc k)) (sym (keep_none x n)) (subst (λ (y : ℕ). y ∷ pad [] k ≡ pad [] (suc k)) (sym (nul_is x n)) (pad_nul k)))
+kept_more x [] k false n = (k, subst (λ (l : List ℕ). x ∷ pad [] k ≡ pad l k) (sym (keep_last x n)) (pad_cons x [] k))
+kept_more x (y ∷ ys) k b n = (k, subst (λ (l : List ℕ). x ∷ pad (y ∷ ys) k ≡ pad l k) (sym (keep_before x y ys)) (pad_cons x (y ∷ ys) k))
+
 pub split : (s : List ℕ) → (k : ℕ) × (s ≡ pad (trim_end_nuls s) k)
-unfolding trim_end_nuls drop_end keep is_nul
+unfolding trim_end_nuls drop_end
 split [] = (0, refl)
-split (x ∷ s) = let h : (k : ℕ) × (s ≡ pad (drop_end is_nul s) k) = split s in go (drop_end is_nul s) h.0 h.1 (is_nul x) refl
-  where
-    go : (d : List ℕ) (k : ℕ) → s ≡ pad d k → (b : Bool) → is_nul x ≡ b → (k : ℕ) × (x ∷ s ≡ pad (keep is_nul x d) k)
-    go [] k e true n = (suc k, rw n (rw (e, eqb-true x 0 n) (pad_nul k)))
-    go [] k e false n = (k, rw n (rw e (pad_cons x [] k)))
-    go (y ∷ ys) k e b n = (k, rw e (pad_cons x (y ∷ ys) k))
+split (x ∷ s) =
+    let h : (k : ℕ) × (s ≡ pad (drop_end is_nul s) k) = split s in
+    let m = kept_more x (drop_end is_nul s) h.0 (is_nul x) refl in
+    (m.0, ap (λ (l : List ℕ). x ∷ l) h.1 ∙ m.1)
 
 -- whether a text ends in a NUL
 abbrev ends_in_nul : List ℕ → Bool

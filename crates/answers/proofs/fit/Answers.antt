@@ -1,0 +1,25 @@
+-- `fit` meets its contract: refusal 14, or the bytes are in use. Assumes nothing.
+use mathlib.Core.Path.{sym, ap, ◌∙◌}
+use Prim.Native.Nat.{◌+◌, ◌^◌, ◌<◌}
+use native.Mathlib.Omega.{arith}
+use borrow.Author.Rules.{rules}
+use Rattle.mdf4.specs.Answers.{exit}
+use Rattle.answers.proofs.Exits.{fit_refused, fit_accepted}
+use Rattle.answers.proofs.fit.Goals as goal
+
+pub returns-then-lent-bytes : goal.returns-then-lent-bytes
+returns-then-lent-bytes c = (
+  λ n y p t f h w.
+      let small : n.out + 1 < 2 ^ 64 = omega (arith, h.out) in
+      c.refuse.ensures.0 n h
+      ∙ rw h.out (sym (ap (exit n) (fit_refused n y p t small w (omega (arith, h.out, c.if-lent-bytes.true))))),
+  c.refuse.ensures.1,
+)
+
+pub returns : goal.returns
+returns c = (
+  λ n y p t f h w.
+      let small : n.out + 1 < 2 ^ 64 = omega (arith, h.out) in
+      fit_accepted n y p t small w (omega (arith, h.out, c.if-lent-bytes.false)) f,
+  record { is = c.if-lent-bytes.false },
+)

@@ -1,0 +1,7 @@
+-- `block_layout_c_preview` meets its contract: the entry, and its answer as words. Assumes nothing.
+use borrow.Author.Rules.{rules}
+use Rattle.block_layout_c.proofs.Exits.{exit_told, answer_told}
+use Rattle.block_layout_c.proofs.block_layout_c_preview.Goals as goal
+
+pub returns : goal.returns
+returns c = (exit_told _ _ _ _ _ _ _ _ c.preview-r.ensures.0, answer_told _ _ _ _ _ _ _ _ c.preview-r.ensures.0 _ c.store_answer.ensures)

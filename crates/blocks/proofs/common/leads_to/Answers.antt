@@ -1,0 +1,8 @@
+-- `leads_to` meets its contract: the test is the definition's.
+use Rattle.mdf4.specs.Kinds.{leads_to}
+use borrow.Author.Rules.{rules}
+use Rattle.blocks.proofs.common.leads_to.Goals as goal
+
+pub returns : goal.returns
+unfolding leads_to
+returns c t = rw c.wide.ensures

@@ -1,0 +1,34 @@
+-- `DataGroupBlock::parse` meets its contract: the header's refusal, or 64 bytes that are there.
+use native.Mathlib.Omega.{arith}
+use Prim.Native.Nat.{◌+◌, ◌≤◌}
+use lib.ListN.{length}
+use Rattle.mdf4.specs.Act.{DG}
+use Rattle.blocks.specs.DataGroupBlock.{data_group_block_of}
+use Rattle.blocks.proofs.Headers.{told}
+use Rattle.blocks.proofs.Fixed.{fixed_dg, fixed_inside, fixed_refused, fixed_read}
+use borrow.Author.Rules.{rules}
+use Rattle.blocks.proofs.data_group_block.DataGroupBlock.parse.Goals as goal
+
+pub returns-in-Refused : goal.returns-in-Refused
+returns-in-Refused c =
+    let a = c.args in
+    fixed_refused data_group_block_of DG 64 0x47442323 fixed_dg a.file.now a.offset (told c.in-Refused.is c.parse_marked.ensures)
+
+pub returns-in-Header : goal.returns-in-Header
+returns-in-Header c =
+    let a = c.args in
+    fixed_read data_group_block_of DG 64 0x47442323 fixed_dg a.file.now a.offset (told c.in-Header.is c.parse_marked.ensures) c.fields.ensures
+
+pub overflow_add-end : goal.overflow_add-end
+overflow_add-end c =
+    let inside : c.args.offset + 64 ≤ length c.args.file.now =
+        let a = c.args in
+        fixed_inside data_group_block_of DG 64 0x47442323 fixed_dg a.file.now a.offset (told c.in-Header.is c.parse_marked.ensures) in
+    omega (arith, inside)
+
+pub slice_bounds-fields-end : goal.slice_bounds-fields-end
+slice_bounds-fields-end c =
+    let inside : c.args.offset + 64 ≤ length c.args.file.now =
+        let a = c.args in
+        fixed_inside data_group_block_of DG 64 0x47442323 fixed_dg a.file.now a.offset (told c.in-Header.is c.parse_marked.ensures) in
+    omega (arith, inside)

@@ -1,0 +1,10 @@
+-- `main` ends: each turn reads a recording, and there are at most 1000000.
+use Prim.Native.Nat.{◌≤◌, ◌-◌}
+use borrow.Author.Rules.{rules}
+use Rattle.replay.proofs.main.Given as goal
+
+abbrev pub invariant-loop-read : goal.invariant-loop-read
+invariant-loop-read l = (read ≤ 1000000) × (differ ≤ read)
+
+abbrev pub decreases-loop-read : goal.decreases-loop-read
+decreases-loop-read l = 1000000 - read

@@ -1,0 +1,13 @@
+-- `store` meets its contract: at turn i the words before i are stored.
+use Prim.Native.Nat.{◌-◌}
+use native.Mathlib.Omega.{arith}
+use borrow.Author.Rules.{rules}
+use lib.ListN.{length}
+use Rattle.walk_state.proofs.Storing.{Storing, store_none, store_more, store_all}
+use Rattle.walk_state.proofs.store.Given as goal
+
+abbrev pub invariant-loop-i : goal.invariant-loop-i
+invariant-loop-i l = Storing l.initial.table l.at l.words l.table l.i
+
+abbrev pub decreases-loop-i : goal.decreases-loop-i
+decreases-loop-i l = length l.words - l.i

@@ -1,0 +1,14 @@
+-- `walk_channels` meets its contract: a loop over a chain.
+use mathlib.Core.Path.{refl, ◌∙◌}
+use Rattle.mdf4.specs.Walk.{walk_channel}
+use Rattle.mdf4.proofs.Fuel.{walk_channel_moves}
+use Rattle.walk_state.proofs.Steps.{go, stop}
+use Rattle.walker.proofs.Chaining.{Step, Going, going, going_on, going_off, gone, left, left_falls, next_on, next_off, said_err}
+use borrow.Author.Rules.{rules}
+use Rattle.walker.proofs.groups.walk_channels.Given as goal
+
+abbrev pub invariant-loop-addr : goal.invariant-loop-addr
+invariant-loop-addr l = Going step l.file l.first tt l.initial.on l.initial.visited l.initial.blocks l.initial.links l.addr tt l.on l.visited l.blocks l.links
+
+abbrev pub decreases-loop-addr : goal.decreases-loop-addr
+decreases-loop-addr l = left l.addr l.on l.visited
