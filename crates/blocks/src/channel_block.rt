@@ -6,7 +6,7 @@ ghost use Rattle.blocks.specs.ChannelBlock.{channel_block_read, channel_block_of
 
 use crate::common::{BlockHeader, HeaderRead};
 use crate::error::MdfError;
-use byteorder::{read_u8, read_u32, read_u64};
+use little_endian::{read_u8, read_u32, read_u64};
 
 #[derive(Clone, Copy)]
 pub struct ChannelBlock {

@@ -9,7 +9,7 @@ ghost use Rattle.blocks.specs.ChannelGroupBlock.{channel_group_block_read, chann
 use crate::common::{BlockHeader, HeaderRead};
 use crate::error::MdfError;
 use crate::extent::{Extent, need_from_block};
-use byteorder::{read_u16, read_u32, read_u64};
+use little_endian::{read_u16, read_u32, read_u64};
 
 #[derive(Clone, Copy)]
 pub struct ChannelGroupBlock {

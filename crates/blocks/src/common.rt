@@ -5,7 +5,7 @@ ghost use Rattle.blocks.specs.Headers.{header_read, header_of, inside_or, marked
 
 use crate::error::MdfError;
 use crate::reader::Reader;
-use byteorder::{read_u32, read_u64};
+use little_endian::{read_u32, read_u64};
 
 #[derive(Drop)]
 pub struct BlockHeader {

@@ -6,7 +6,7 @@ ghost use Rattle.blocks.specs.DataGroupBlock.{data_group_block_read, data_group_
 
 use crate::common::{BlockHeader, HeaderRead};
 use crate::error::MdfError;
-use byteorder::{read_u8, read_u64};
+use little_endian::{read_u8, read_u64};
 
 #[derive(Drop)]
 pub struct DataGroupBlock {

@@ -11,7 +11,7 @@ use crate::common::{BlockHeader, HeaderRead, leads_to, wide};
 use crate::error::MdfError;
 use crate::extent::{Extent, need_from_block};
 use crate::reader::Reader;
-use byteorder::{read_u8, read_u32, read_u64};
+use little_endian::{read_u8, read_u32, read_u64};
 
 #[derive(Drop)]
 pub struct DataListBlock {

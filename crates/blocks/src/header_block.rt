@@ -6,7 +6,7 @@ ghost use Rattle.blocks.specs.HeaderBlock.{header_block_read, header_block_of};
 
 use crate::common::{BlockHeader, HeaderRead};
 use crate::error::MdfError;
-use byteorder::{read_i16, read_u8, read_u64};
+use little_endian::{read_i16, read_u8, read_u64};
 
 #[derive(Drop)]
 pub struct HeaderBlock {

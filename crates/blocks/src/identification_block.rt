@@ -8,7 +8,7 @@ ghost use Rattle.mdf4.specs.Version.{number, parse_u16, parse_minor, version};
 ghost use Rattle.blocks.specs.IdentificationBlock.{DotAt, version_read, version_number, version_of_text, identified, identification_of, Parts, IdentificationRead};
 
 use crate::error::MdfError;
-use byteorder::{read_u16, read_u64};
+use little_endian::{read_u16, read_u64};
 use utf8::{is_utf8, trim, trim_end, trim_end_nuls};
 
 // A number of the version, or the version itself.

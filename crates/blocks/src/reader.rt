@@ -6,7 +6,7 @@ ghost use Rattle.blocks.specs.Headers.{header_read, inside_or};
 
 use crate::common::{BlockHeader, HeaderRead, saturating_add};
 use crate::error::MdfError;
-use byteorder::read_u64;
+use little_endian::read_u64;
 
 #[derive(Drop)]
 pub struct Reader<'a> {

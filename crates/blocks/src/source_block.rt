@@ -9,7 +9,7 @@ ghost use Rattle.blocks.specs.SourceBlock.{source_block_read, source_block_of};
 use crate::common::{BlockHeader, HeaderRead};
 use crate::error::MdfError;
 use crate::extent::{Extent, need_from_block};
-use byteorder::{read_u8, read_u64};
+use little_endian::{read_u8, read_u64};
 
 #[derive(Drop)]
 pub struct SourceBlock {

@@ -6,7 +6,7 @@ ghost use Rattle.leaves.specs.Onward.{Onward};
 
 use blocks::data_type::put_data_type;
 use blocks::identification_block::{IdentificationBlock, VersionRead};
-use byteorder::{read_u16, read_u32, read_u64};
+use little_endian::{read_u16, read_u32, read_u64};
 use libc::STDOUT_FILENO;
 
 fn put_bool(out: &mut [u8], b: bool) -> usize {

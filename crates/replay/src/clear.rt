@@ -1,7 +1,7 @@
 // Copies of a recording, also with the ranges of its recorded clear list zeroed: what the blanker is to leave.
 use crate::compare::same_bytes;
 use crate::recording::Ends;
-use byteorder::read_u64;
+use little_endian::read_u64;
 use tables::zero_bytes;
 
 // Bytes of the longest recording that is copied, and where a clear list's ranges begin.

@@ -4,7 +4,7 @@ ghost use Rattle.replay.specs.Parts.{Ordered};
 
 use crate::recording::{Ends, Entry, PREVIEW, TO_TREE, Want, size_of};
 use block_layout::Answer;
-use byteorder::read_u64;
+use little_endian::read_u64;
 use tables::{BLOCK_ROW_WORDS, PAIR_WORDS};
 
 // The word at place i of a part, 0 behind it.

@@ -2,7 +2,7 @@
 ghost use Rattle.std.specs.Prelude.{◌+◌, ◌≤◌, length};
 ghost use Rattle.replay.specs.Parts.{Ordered};
 
-use byteorder::{read_u16, read_u32, read_u64};
+use little_endian::{read_u16, read_u32, read_u64};
 use tables::PAIR_WORDS;
 
 // The entries, and how many there are.

@@ -23,7 +23,7 @@ use blocks::identification_block::IdentificationBlock;
 use blocks::metadata_block::MetadataBlock;
 use blocks::source_block::SourceBlock;
 use blocks::text_block::TextBlock;
-use byteorder::{read_u8, read_u32, read_u64};
+use little_endian::{read_u8, read_u32, read_u64};
 use tables::{BLOCK_ROW_WORDS, PAIR_WORDS, larger, put_range};
 
 // Document 01's numbers of the kinds whose read bytes are not their header alone.

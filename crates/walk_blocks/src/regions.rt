@@ -13,7 +13,7 @@ use blocks::common::{HeaderRead, wide};
 use blocks::data_block::DataBlock;
 use blocks::data_list_block::{DataListBlock, DataListBlockRead};
 use blocks::error::MdfError;
-use byteorder::read_u32;
+use little_endian::read_u32;
 use walk_state::{
     Block, Walk, Walked, check_room, check_target, list_block, make_link, push_link, push_row,
     row_of, seen, visit,

@@ -13,7 +13,7 @@ use blocks::error::MdfError;
 use blocks::metadata_block::{MetadataBlock, MetadataBlockRead};
 use blocks::source_block::{SourceBlock, SourceBlockRead};
 use blocks::text_block::{TextBlock, TextBlockRead};
-use byteorder::read_u32;
+use little_endian::read_u32;
 use walk_state::{Block, Walk, Walked, list_block, seen, visit};
 
 // Document 01's numbers of the kinds.

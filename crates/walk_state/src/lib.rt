@@ -13,7 +13,7 @@ ghost use Rattle.walk_state.specs.Held.{held, said, state_of, checked, Within, M
 
 use blocks::common::wide;
 use blocks::error::MdfError;
-use byteorder::read_u32;
+use little_endian::read_u32;
 use tables::{BLOCK_ROW_WORDS, PAIR_WORDS};
 
 // Document 01's numbers of the kinds that count.

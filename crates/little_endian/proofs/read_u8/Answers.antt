@@ -1,7 +1,7 @@
 -- `read_u8` meets its contract: a number of one byte is that byte.
 use borrow.Author.Rules.{rules}
-use Rattle.byteorder.proofs.Halves.{one_byte}
-use Rattle.byteorder.proofs.read_u8.Goals as goal
+use Rattle.little_endian.proofs.Halves.{one_byte}
+use Rattle.little_endian.proofs.read_u8.Goals as goal
 
 pub returns : goal.returns
 returns c =

@@ -1,7 +1,7 @@
 -- `read_u64` meets its contract: the low half, and 2^32 times the high half.
 use borrow.Author.Rules.{rules}
-use Rattle.byteorder.proofs.Halves.{halves}
-use Rattle.byteorder.proofs.read_u64.Goals as goal
+use Rattle.little_endian.proofs.Halves.{halves}
+use Rattle.little_endian.proofs.read_u64.Goals as goal
 
 pub returns : goal.returns
 returns c =

@@ -1,7 +1,7 @@
 -- `read_u16` meets its contract: the low byte, and 256 times the high byte.
 use borrow.Author.Rules.{rules}
-use Rattle.byteorder.proofs.Halves.{halves}
-use Rattle.byteorder.proofs.read_u16.Goals as goal
+use Rattle.little_endian.proofs.Halves.{halves}
+use Rattle.little_endian.proofs.read_u16.Goals as goal
 
 pub returns : goal.returns
 returns c =
