@@ -17,5 +17,3 @@ pub mod Told
 pub mod Texts
 pub mod Version
 pub mod Identification
-pub mod ReaderWalk
-pub mod ReaderMade

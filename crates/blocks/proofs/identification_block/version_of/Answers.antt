@@ -16,6 +16,6 @@ returns-in-Refused-minor_at c =
 
 pub returns-in-Number-minor_at : goal.returns-in-Number-minor_at
 returns-in-Number-minor_at c =
-    c.number_of_lem.ensures
+    c.number_of.ensures
     ∙ version_made c.find_dot-dot.ensures (told_as version_read c.in-Number.is c.parse_u16.ensures)
     (told_as version_read c.in-Number-minor_at.is c.minor_at.ensures)

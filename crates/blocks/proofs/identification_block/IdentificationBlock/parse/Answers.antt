@@ -4,11 +4,7 @@ use Rattle.blocks.specs.IdentificationBlock.{version_read}
 use Rattle.blocks.proofs.Told.{told_as}
 use Rattle.blocks.proofs.Identification.{ident_short, ident_other, ident_refused, ident_read}
 use borrow.Author.Rules.{rules}
-use Rattle.blocks.proofs.identification_block.IdentificationBlock.parse.Statement.{
 use Rattle.blocks.proofs.identification_block.IdentificationBlock.parse.Goals as goal
-
-  statement,
-}
 
 pub returns-then-len-lt-MIN_LEN : goal.returns-then-len-lt-MIN_LEN
 returns-then-len-lt-MIN_LEN c = record { says = ident_short c.args.file.now (omega arith); parts = tt }
