@@ -8,8 +8,6 @@ use native.Mathlib.Nat.{not-suc-le-zero}
 use native.Mathlib.Numerals.{add-one}
 use lib.ListN.{length, get_or, drop, length-map, drop_of_length-le, get_or-map}
 use lib.Seq.{drop-cons}
-use types.Run.{OneOf, miss}
-use denote.Enum.Declared.{tag_of}
 use Rattle.mdf4.specs.Bytes.{little, num, words}
 use Rattle.mdf4.specs.Act.{Refusal, refusal, Result, Stop, Out, ok, err, and_then, DL, Link, State, Act, elem, seen, choose, pure, stop, ◌>>=◌, ◌>>◌, visit, once, each, reason}
 use Rattle.mdf4.specs.Kinds.{shape, RecordLayout, no_records, make_link, null, leads_to}
@@ -120,10 +118,10 @@ module _ (h : RecordLayout) (a : ℕ) (r : List ℕ) (s : State) where
 
 -- a list that is not entered
 pub list_left : (d : ℕ) (h : RecordLayout) (a : ℕ) (r : List ℕ) (s : State) (w : Walk) (x : Entered) (y : Walked) (v b l : List ℕ)
-    → OneOf (0 ∷ 2 ∷ []) (tag_of the_type x) → y ≡ handed_up x → Opens w x r a v b l (reason (enter_list d a r s)) → Met w y v b l (said (data_list d h a r s))
+    → ((w' : Walk) (n : ℕ) → x ≡ DataList w' n → ⊥) → y ≡ handed_up x → Opens w x r a v b l (reason (enter_list d a r s)) → Met w y v b l (said (data_list d h a r s))
 list_left d h a r s w (Seen w') y v b l t e m = rw e (record { says = sym (list_seen h a r s d _ (sym m.says)); after = m.after })
 list_left d h a r s w (Refused x) y v b l t e m = rw e (record { says = sym (list_off h a r s d _ (sym m.says)); after = tt })
-list_left d h a r s w (DataList w' n) y v b l t e m = absurd (miss (0 ∷ 2 ∷ []) 1 tt t)
+list_left d h a r s w (DataList w' n) y v b l t e m = absurd (t w' n refl)
 
 -- the links of the list at a, which has n
 abbrev links_at : List ℕ → ℕ → ℕ → List Link

@@ -366,7 +366,7 @@ fn not_entered(r: Entered) -> Walked
 }
 
 // What a data link leads to; `depth` lists may still be entered.
-#[cycle(walk_data_links_walk_data_list_walk_data_region)]
+#[cycle(data_regions)]
 pub fn walk_data_region(
     file: &[u8],
     visited: &mut [u64],
@@ -412,7 +412,7 @@ pub fn walk_data_region(
 }
 
 // What the data links of a data list lead to, in order; `depth` lists may still be entered.
-#[cycle(walk_data_links_walk_data_list_walk_data_region)]
+#[cycle(data_regions)]
 fn walk_data_links(
     file: &[u8],
     visited: &mut [u64],
@@ -457,7 +457,7 @@ fn walk_data_links(
 }
 
 // A data list and what its links lead to: the data links first, then next.
-#[cycle(walk_data_links_walk_data_list_walk_data_region)]
+#[cycle(data_regions)]
 fn walk_data_list(
     file: &[u8],
     visited: &mut [u64],

@@ -1,6 +1,7 @@
 // Texts, sources and conversions: the Rust's `walk_text_like`, `walk_source` and `walk_conversion`.
 ghost use Rattle.std.specs.Prelude.{◌≡◌, List, [], ℕ, ◌+◌, ◌≤◌, length};
-ghost use Rattle.mdf4.specs.Act.{ok, Kind, TX, MD, UT};
+ghost use Rattle.mdf4.specs.Act as spec;
+ghost use Rattle.mdf4.specs.Act.{ok, Kind};
 ghost use Rattle.mdf4.specs.Bytes.{num};
 ghost use Rattle.mdf4.specs.Kinds.{shape, no_records};
 ghost use Rattle.mdf4.specs.Walk as walk;
@@ -57,7 +58,7 @@ pub fn list_plain(
 // Reads and lists a text.
 fn enter_tx(file: &[u8], blocks: &mut [u64], links: &mut [u64], w: Walk, addr: u64) -> Walked
     requires { Counted w links.old }
-    ensures { (v : List ℕ) → num file.now addr 4 ≡ (shape TX).mark → Within w v blocks.old links.old → Met w result v blocks.new links.new (said (walk.enter TX addr (no_records 0) file.now (held w v blocks.old links.old))) }
+    ensures { (v : List ℕ) → num file.now addr 4 ≡ (shape spec.TX).mark → Within w v blocks.old links.old → Met w result v blocks.new links.new (said (walk.enter spec.TX addr (no_records 0) file.now (held w v blocks.old links.old))) }
 {
     let read = TextBlock::parse(file, addr);
     let TextBlockRead::Block(text) = read else {
@@ -70,7 +71,7 @@ fn enter_tx(file: &[u8], blocks: &mut [u64], links: &mut [u64], w: Walk, addr: u
 // Reads and lists metadata.
 fn enter_md(file: &[u8], blocks: &mut [u64], links: &mut [u64], w: Walk, addr: u64) -> Walked
     requires { Counted w links.old }
-    ensures { (v : List ℕ) → num file.now addr 4 ≡ (shape MD).mark → Within w v blocks.old links.old → Met w result v blocks.new links.new (said (walk.enter MD addr (no_records 0) file.now (held w v blocks.old links.old))) }
+    ensures { (v : List ℕ) → num file.now addr 4 ≡ (shape spec.MD).mark → Within w v blocks.old links.old → Met w result v blocks.new links.new (said (walk.enter spec.MD addr (no_records 0) file.now (held w v blocks.old links.old))) }
 {
     let read = MetadataBlock::parse(file, addr);
     let MetadataBlockRead::Block(metadata) = read else {
@@ -83,7 +84,7 @@ fn enter_md(file: &[u8], blocks: &mut [u64], links: &mut [u64], w: Walk, addr: u
 // Reads and lists a block of another kind, met by a text link.
 fn enter_ut(file: &[u8], blocks: &mut [u64], links: &mut [u64], w: Walk, addr: u64) -> Walked
     requires { Counted w links.old }
-    ensures { (v : List ℕ) → Within w v blocks.old links.old → Met w result v blocks.new links.new (said (walk.enter UT addr (no_records 0) file.now (held w v blocks.old links.old))) }
+    ensures { (v : List ℕ) → Within w v blocks.old links.old → Met w result v blocks.new links.new (said (walk.enter spec.UT addr (no_records 0) file.now (held w v blocks.old links.old))) }
 {
     let read = BlockHeader::parse(file, addr, BlockHeader::LEN);
     let HeaderRead::Header(header) = read else {

@@ -44,7 +44,7 @@ push_row-w1-requires c =
         room_shown a.block.offset a.block.size a.count a.w [] a.blocks.now a.links.now
         (rw c.in-On-r2.is at (c.check_room-r2.ensures [])) in
     let s = shown.1 in
-    record { room = omega (arith, s); dg = c.requires.0.dg; cg = c.requires.0.cg; cn = c.requires.0.cn }
+    record { room = omega (arith, s); dg = c.requires.counted.dg; cg = c.requires.counted.cg; cn = c.requires.counted.cn }
 
 pub push_list-w2-requires : goal.push_list-w2-requires
 push_list-w2-requires c =
@@ -52,7 +52,10 @@ push_list-w2-requires c =
         let a = c.args in
         room_shown a.block.offset a.block.size a.count a.w [] a.blocks.now a.links.now
         (rw c.in-On-r2.is at (c.check_room-r2.ensures [])) in
-    (c.requires.1, omega (arith, shown.2, c.push_row-w1.ensures.links))
+    record {
+      count_in_bounds = c.requires.count_in_bounds;
+      pair_words_in_bounds = omega (arith, shown.2, c.push_row-w1.ensures.links);
+    }
 
 pub returns : goal.returns
 returns c k h o v t i =

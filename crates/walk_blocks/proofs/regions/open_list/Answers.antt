@@ -24,7 +24,10 @@ pub list_links-r-requires : goal.list_links-r-requires
 list_links-r-requires c =
     let told : ListTold c.args.file.now c.args.addr c.in-Block.list (num c.args.file.now c.args.addr 4) =
         list_told c.args.file.now c.args.addr c.in-Block.list _ (sym (rw c.in-Block.is at c.parse-read.ensures)) refl in
-    (c.requires, told.inside)
+    record {
+      counted = c.requires;
+      count_in_bounds = told.inside;
+    }
 
 pub returns-in_default : goal.returns-in_default
 returns-in_default c v i =

@@ -16,13 +16,13 @@ pub loop-i-init : goal.loop-i-init
 loop-i-init c = (omega arith, refl, link_none c.args.w c.args.links.now)
 
 pub data_link-target-requires : goal.data_link-target-requires
-data_link-target-requires c = omega (arith, c.requires.0, c.loop-i-test.true)
+data_link-target-requires c = omega (arith, c.requires.count_in_bounds, c.loop-i-test.true)
 
 pub push_link-on-requires : goal.push_link-on-requires
 push_link-on-requires c =
     let a = c.args in
     let k = c.loop-i in
-    omega (arith, c.requires.1, c.loop-i-test.true, k.invariant.1, list_count a.file.now a.addr a.count k.i a.w k.on a.links.now k.links k.invariant.2 k.invariant.0)
+    omega (arith, c.requires.pair_words_in_bounds, c.loop-i-test.true, k.invariant.1, list_count a.file.now a.addr a.count k.i a.w k.on a.links.now k.links k.invariant.2 k.invariant.0)
 
 pub loop-i-preserved : goal.loop-i-preserved
 loop-i-preserved c =
