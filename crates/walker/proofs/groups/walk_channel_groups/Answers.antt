@@ -9,10 +9,8 @@ use Rattle.walk_blocks.specs.Regions.{layout}
 use Rattle.walker.proofs.Chaining.{Step, Going, going, going_on, going_off, gone, left, left_falls}
 use Rattle.walker.proofs.Grouping.{grouped_on, grouped_off, handed_first, handed_again, groups_go, groups_stop}
 use borrow.Author.Rules.{rules}
+use Rattle.walker.proofs.groups.walk_channel_groups.Invariants.{step}
 use Rattle.walker.proofs.groups.walk_channel_groups.Goals as goal
-
-abbrev step : ℕ → Step Handed
-step id_len fuel = walk_channel_group fuel id_len
 
 pub loop-addr-init : goal.loop-addr-init
 loop-addr-init c = going (step c.args.record_id_len) _ _ _ _ _ _ _ c.requires

@@ -11,6 +11,9 @@ use Rattle.walker.proofs.Grouping.{grouped_on, grouped_off, handed_first, handed
 use borrow.Author.Rules.{rules}
 use Rattle.walker.proofs.groups.walk_channel_groups.Given as goal
 
+abbrev pub step : ℕ → Step Handed
+step id_len fuel = walk_channel_group fuel id_len
+
 abbrev pub invariant-loop-addr : goal.invariant-loop-addr
 invariant-loop-addr l = Going (step l.record_id_len) l.file l.first (false, no_records l.record_id_len) l.initial.on l.initial.visited l.initial.blocks l.initial.links l.addr (l.some, layout l.record_size l.invalidation_bytes l.record_id_len) l.on l.visited l.blocks l.links
 

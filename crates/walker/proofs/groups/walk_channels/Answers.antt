@@ -5,10 +5,8 @@ use Rattle.mdf4.proofs.Fuel.{walk_channel_moves}
 use Rattle.walk_state.proofs.Steps.{go, stop}
 use Rattle.walker.proofs.Chaining.{Step, Going, going, going_on, going_off, gone, left, left_falls, next_on, next_off, said_err}
 use borrow.Author.Rules.{rules}
+use Rattle.walker.proofs.groups.walk_channels.Invariants.{step}
 use Rattle.walker.proofs.groups.walk_channels.Goals as goal
-
-abbrev step : Step (Unit {0})
-step fuel = walk_channel
 
 pub loop-addr-init : goal.loop-addr-init
 loop-addr-init c = going step _ _ _ _ _ _ _ c.requires

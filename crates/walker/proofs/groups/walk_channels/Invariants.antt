@@ -7,6 +7,9 @@ use Rattle.walker.proofs.Chaining.{Step, Going, going, going_on, going_off, gone
 use borrow.Author.Rules.{rules}
 use Rattle.walker.proofs.groups.walk_channels.Given as goal
 
+abbrev pub step : Step (Unit {0})
+step fuel = walk_channel
+
 abbrev pub invariant-loop-addr : goal.invariant-loop-addr
 invariant-loop-addr l = Going step l.file l.first tt l.initial.on l.initial.visited l.initial.blocks l.initial.links l.addr tt l.on l.visited l.blocks l.links
 
