@@ -1,6 +1,7 @@
 // The Rust's error.rs and blocks/*.rs: a module for each file. Each block's struct has its mark, its least length and a parser
 // that answers the block's fields or a refusal.
 #![tactic(auto)]
+
 pub mod channel_block;
 pub mod channel_group_block;
 pub mod common;

@@ -1,5 +1,6 @@
 // A channel's name, as read_text_at of block_layout.rs reads it.
 #![tactic(auto)]
+
 ghost use Rattle.std.specs.Prelude.{◌≡◌};
 ghost use Rattle.channel_name.specs.Name.{Named};
 ghost use Rattle.blocks.specs.declared.error.MdfError.TheVariants.{SumOverflow};

@@ -1,5 +1,6 @@
 // Bytes into a lent output, in place of Rust's format!. specs/ says what is written.
 #![tactic(auto)]
+
 ghost use Rattle.std.specs.Prelude.{◌≡◌, false, ◌∷◌, [], ◌++◌, ◌<◌, ◌≤◌, ◌-◌, ◌^◌, min, T, pos, negsuc, ◌-ℤ◌, length, replicate, get_or};
 ghost use Rattle.std.proofs.Math.Seq.{slice};
 ghost use Rattle.std.specs.Int.Signed.{lt_z};

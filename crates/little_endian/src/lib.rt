@@ -1,5 +1,6 @@
-// Little-endian numbers of a slice at an offset, as Rust's crate little_endian reads them.
+// Little-endian numbers of a slice at an offset, as Rust's crate byteorder reads them.
 #![tactic(auto)]
+
 ghost use Rattle.std.specs.Prelude.{◌≡◌, ◌+◌, ◌≤◌, length};
 ghost use Rattle.fmt.specs.Digits.{i16_of};
 ghost use Rattle.mdf4.specs.Bytes.{num};

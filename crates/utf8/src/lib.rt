@@ -1,6 +1,7 @@
 // UTF-8 as Rust's String::from_utf8_lossy, char::is_whitespace and trim have it. specs/ says what these mean.
 // A text is the part (at, end) of some bytes: those from `at` up to `end`.
 #![tactic(auto)]
+
 ghost use Rattle.std.specs.Prelude.{◌≡◌, ◌+◌, ◌≤◌, ◌<◌, length};
 ghost use Rattle.std.proofs.Math.Seq.{slice};
 ghost use Rattle.utf8.specs.Utf8.{lead_of, trailing, step_of, width_of, first_chunk, char_count, valid_utf8};

@@ -1,7 +1,7 @@
 -- Data regions: a list that is not entered, and one that is entered, link by link. Assumes nothing.
 use mathlib.Core.Path.{◌≡◌, refl, sym, ap, ◌∙◌}
 use mathlib.Core.Bool.{Bool, true, false}
-use mathlib.Core.List.{List, [], ◌∷◌, map}
+use mathlib.Core.List.{List, [], map}
 use Prim.Native.Nat.{ℕ, zero, suc, ◌+◌, ◌*◌, ◌-◌, ◌≤◌, ◌<◌}
 use native.Mathlib.Omega.{arith}
 use native.Mathlib.Nat.{not-suc-le-zero}
@@ -23,7 +23,6 @@ use Rattle.walk_state.proofs.Steps.{on, off}
 use Rattle.walk_blocks.specs.Regions.{open_list, enter_list, links_from, data_list, Open, Opens, Deep, handed_up}
 use Rattle.walk_blocks.specs.declared.regions.Entered.{Entered}
 use Rattle.walk_blocks.specs.declared.regions.Entered.TheVariants.{Seen, List as DataList, Refused}
-use Rattle.walk_blocks.specs.contracts.regions.Entered.{the_type}
 use Rattle.walk_blocks.proofs.Entering.{then_on, then_off}
 use Rattle.walk_blocks.proofs.DataBlocks.{block_none}
 use Rattle.walk_blocks.proofs.DataLists.{words_length, words_at}

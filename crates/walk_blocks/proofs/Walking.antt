@@ -9,7 +9,7 @@ use lib.ListN.{length, get_or, take, length-append}
 use lib.Seq.{length-take-le}
 use borrow.Author.Tests.{lt-ltb, le-ltb, le-leb, lt-leb, eq-eqb, ne_eqb, eqb-true}
 use Rattle.mdf4.specs.Bytes.{little, num, bytes, words}
-use Rattle.mdf4.specs.Act.{Refusal, refusal, Out, ok, err, and_then, Kind, SI, UT, State, Act, choose, pure, stop, sized, seen, elem, visit, once, ◌>>=◌, ◌>>◌}
+use Rattle.mdf4.specs.Act.{Refusal, refusal, Out, ok, err, and_then, Kind, SI, UT, State, Act, choose, pure, stop, sized, seen, elem, visit, once, ◌>>=◌}
 use Rattle.mdf4.specs.Kinds.{shape, block_len, links_nr, no_records, read_block, read_of, make_link}
 use Rattle.mdf4.specs.Walk.{after_reading, enter, addr, link_of, enter_text, walk_text_like, walk_conversion}
 use Rattle.mdf4.proofs.Fuel.{once_seen}

@@ -9,7 +9,7 @@ use lib.ListN.{length, get_or, take, drop, length-map, drop_of_length-le}
 use lib.Seq.{take-suc, take_all, drop-cons, length-take-le}
 use Rattle.mdf4.specs.Act.{refusal, Out, ok, err, and_then, check, Kind, Row, Link, State}
 use Rattle.mdf4.specs.Kinds.{shape, is, RecordLayout, make_link}
-use Rattle.mdf4.specs.Walk.{targets_ok, index_of, row_of, push, Block, after_reading}
+use Rattle.mdf4.specs.Walk.{targets_ok, index_of, row_of, push, after_reading}
 use Rattle.walk_state.specs.declared.Block as declared
 use Rattle.walk_state.specs.declared.Walk.{Walk}
 use Rattle.walk_state.specs.declared.Walked.TheVariants.{On}

@@ -1,7 +1,6 @@
 -- `read_text_at` meets its contract: an answer for each test of the address, the mark and the length, in their order.
 use native.Mathlib.Omega.{arith}
 use Rattle.channel_name.proofs.Names.{null_name, name_past, name_outside, name_other, name_long, name_short, name_beyond, name_whole}
-use borrow.Author.Rules.{rules}
 use Rattle.channel_name.proofs.read_text_at.Goals as goal
 
 pub returns-then-addr-eq0 : goal.returns-then-addr-eq0

@@ -1,5 +1,4 @@
 -- `fmt::at_or_zero` meets its contract. Assumes nothing.
-use borrow.Author.Rules.{rules}
 use mathlib.Core.Path.{sym}
 use lib.ListN.{get_or-eq_default}
 use Rattle.fmt.proofs.at_or_zero.Goals as goal

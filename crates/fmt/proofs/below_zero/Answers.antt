@@ -1,6 +1,5 @@
 -- `fmt::below_zero` meets its contract. Assumes nothing.
 use Rattle.fmt.proofs.Bits16.{neg_value, cast_fits, below_zero}
-use borrow.Author.Rules.{rules}
 use Rattle.fmt.proofs.below_zero.Goals as goal
 
 pub overflow_cast-result : goal.overflow_cast-result

@@ -1,5 +1,4 @@
 -- `fmt::lossy_len` meets its contract. Assumes nothing.
-use borrow.Author.Rules.{rules}
 use native.Mathlib.Omega.{arith}
 use Rattle.fmt.proofs.Room.{counted}
 use Rattle.fmt.proofs.lossy_len.Goals as goal

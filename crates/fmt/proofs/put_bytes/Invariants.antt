@@ -1,12 +1,8 @@
 -- `fmt::put_bytes` meets its contract. The invariant: the bytes passed are written. Assumes nothing.
 use Prim.Native.Nat.{◌≤◌, ◌-◌}
-use borrow.Author.Rules.{rules}
-use native.Mathlib.Omega.{arith}
-use mathlib.Core.Path.{◌≡◌, refl}
+use mathlib.Core.Path.{◌≡◌}
 use lib.ListN.{length, take}
-use lib.Seq.{take_all}
 use Rattle.fmt.specs.Text.{Wrote}
-use Rattle.fmt.proofs.Text.{none, then_take}
 use Rattle.fmt.proofs.put_bytes.Given as goal
 
 abbrev pub invariant-loop-i : goal.invariant-loop-i

@@ -1,5 +1,4 @@
 -- `fmt::put_char` meets its contract. Assumes nothing.
-use borrow.Author.Rules.{rules}
 use native.Mathlib.Omega.{arith}
 use Rattle.fmt.proofs.Preview.{char_long, char_other, char_space, char_feed}
 use Rattle.fmt.proofs.put_char.Goals as goal

@@ -1,11 +1,6 @@
 -- `fmt::put_chunks` meets its contract. The invariant: what is left to write gives the whole. Assumes nothing.
-use Prim.Native.Nat.{◌+◌, ◌-◌}
-use native.Mathlib.Omega.{arith}
-use lib.Seq.{slice}
-use borrow.Author.Rules.{rules}
-use Rattle.utf8.specs.Utf8.{char, junk}
-use Rattle.utf8.proofs.Chunks.{Stepped, on_char, on_junk}
-use Rattle.fmt.proofs.Preview.{Left, left_start, left_step, left_junk, left_done}
+use Prim.Native.Nat.{◌-◌}
+use Rattle.fmt.proofs.Preview.{Left}
 use Rattle.fmt.proofs.put_chunks.Given as goal
 
 abbrev pub invariant-loop-i : goal.invariant-loop-i

@@ -1,5 +1,4 @@
 -- `fmt::put_first` meets its contract. Assumes nothing.
-use borrow.Author.Rules.{rules}
 use Rattle.fmt.proofs.Text.{emit_append}
 use Rattle.fmt.proofs.put_first.Goals as goal
 

@@ -1,12 +1,9 @@
 -- `fmt::put_format` meets its contract. Assumes nothing.
 use Prim.Native.Nat.{◌≤◌, ◌-◌}
-use borrow.Author.Rules.{rules}
-use native.Mathlib.Omega.{arith}
-use mathlib.Core.Path.{◌≡◌, refl}
+use mathlib.Core.Path.{◌≡◌}
 use lib.ListN.{length, drop}
 use Rattle.fmt.specs.Text.{page, emit}
 use Rattle.fmt.specs.Format.{format_from, format}
-use Rattle.fmt.proofs.Format.{format_turn, format_end}
 use Rattle.fmt.proofs.put_format.Given as goal
 
 abbrev pub invariant-loop-i : goal.invariant-loop-i

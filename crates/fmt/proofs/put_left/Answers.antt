@@ -1,5 +1,4 @@
 -- `fmt::put_left` meets its contract. Assumes nothing.
-use borrow.Author.Rules.{rules}
 use Rattle.fmt.specs.Digits.{pad_right}
 use Rattle.fmt.proofs.Text.{emit_append}
 use Rattle.fmt.proofs.put_left.Goals as goal

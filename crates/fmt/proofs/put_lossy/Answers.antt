@@ -1,5 +1,4 @@
 -- `fmt::put_lossy` meets its contract. Assumes nothing.
-use borrow.Author.Rules.{rules}
 use Rattle.utf8.specs.Utf8.{lossy}
 use Rattle.fmt.proofs.put_lossy.Goals as goal
 

@@ -1,5 +1,4 @@
 -- `fmt::put_part` meets its contract. Assumes nothing.
-use borrow.Author.Rules.{rules}
 use native.Mathlib.Omega.{arith}
 use Rattle.fmt.proofs.Text.{part_slice}
 use Rattle.fmt.proofs.put_part.Goals as goal

@@ -1,5 +1,4 @@
 -- `fmt::put_piece` meets its contract. Assumes nothing.
-use borrow.Author.Rules.{rules}
 use borrow.Author.Tests.{ne_eqb}
 use Rattle.fmt.proofs.put_piece.Goals as goal
 

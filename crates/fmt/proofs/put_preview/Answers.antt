@@ -1,6 +1,5 @@
 -- `fmt::put_preview` meets its contract. Assumes nothing.
 use native.Mathlib.Omega.{arith}
-use borrow.Author.Rules.{rules}
 use lib.Seq.{slice}
 use Rattle.fmt.proofs.Preview.{preview_all, preview_cut}
 use Rattle.fmt.proofs.put_preview.Goals as goal

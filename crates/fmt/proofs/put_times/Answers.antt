@@ -1,11 +1,8 @@
 -- `fmt::put_times` meets its contract. Assumes nothing.
-use Prim.Native.Nat.{◌≤◌, ◌-◌}
 use borrow.Author.Rules.{rules}
 use native.Mathlib.Omega.{arith}
 use native.Mathlib.Nat.{le_antisymm}
-use mathlib.Core.Path.{◌≡◌, refl}
-use lib.ListN.{length, replicate}
-use Rattle.fmt.specs.Text.{Wrote}
+use mathlib.Core.Path.{refl}
 use Rattle.fmt.proofs.Text.{none, then_same}
 use Rattle.fmt.proofs.put_times.Goals as goal
 

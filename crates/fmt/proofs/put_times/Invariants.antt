@@ -1,12 +1,8 @@
 -- `fmt::put_times` meets its contract. Assumes nothing.
 use Prim.Native.Nat.{◌≤◌, ◌-◌}
-use borrow.Author.Rules.{rules}
-use native.Mathlib.Omega.{arith}
-use native.Mathlib.Nat.{le_antisymm}
-use mathlib.Core.Path.{◌≡◌, refl}
+use mathlib.Core.Path.{◌≡◌}
 use lib.ListN.{length, replicate}
 use Rattle.fmt.specs.Text.{Wrote}
-use Rattle.fmt.proofs.Text.{none, then_same}
 use Rattle.fmt.proofs.put_times.Given as goal
 
 abbrev pub invariant-loop-i : goal.invariant-loop-i

@@ -2,7 +2,6 @@
 use Rattle.fmt.proofs.Bits16.{signed_high}
 use native.Mathlib.Omega.{arith}
 use borrow.Author.Tests.{lt-ltb}
-use borrow.Author.Rules.{rules}
 use Rattle.fmt.proofs.signed16.Goals as goal
 
 pub returns-then-u-lt32768 : goal.returns-then-u-lt32768

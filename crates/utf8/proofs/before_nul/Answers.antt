@@ -1,8 +1,6 @@
 -- There is no NUL up to i (`Passed`).
-use Prim.Native.Nat.{◌-◌}
 use native.Mathlib.Omega.{arith}
-use borrow.Author.Rules.{rules}
-use Rattle.utf8.proofs.NulEnds.{Passed, passed_start, passed_end, passed_nul, passed_other}
+use Rattle.utf8.proofs.NulEnds.{passed_start, passed_end, passed_nul, passed_other}
 use Rattle.utf8.proofs.before_nul.Goals as goal
 
 pub loop-i-init : goal.loop-i-init

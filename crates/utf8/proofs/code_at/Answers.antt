@@ -2,7 +2,6 @@
 use Prim.Native.Nat.{◌+◌}
 use native.Mathlib.Omega.{arith}
 use Rattle.utf8.proofs.Trimming.{code_1, code_2, code_3, code_4}
-use borrow.Author.Rules.{rules}
 use Rattle.utf8.proofs.code_at.Goals as goal
 
 pub returns-then-n-eq1 : goal.returns-then-n-eq1

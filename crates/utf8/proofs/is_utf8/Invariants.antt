@@ -1,11 +1,8 @@
 -- The text from i on is well-formed where the whole is.
-use Prim.Native.Nat.{◌+◌, ◌-◌, ◌≤◌}
-use mathlib.Core.Path.{◌≡◌, sym, ◌∙◌}
-use native.Mathlib.Omega.{arith}
+use Prim.Native.Nat.{◌-◌, ◌≤◌}
+use mathlib.Core.Path.{◌≡◌}
 use lib.Seq.{slice}
-use borrow.Author.Rules.{rules}
-use Rattle.utf8.specs.Utf8.{valid_utf8, char}
-use Rattle.utf8.proofs.Chunks.{Stepped, on_char, on_junk, valid_next, valid_stop, valid_none}
+use Rattle.utf8.specs.Utf8.{valid_utf8}
 use Rattle.utf8.proofs.is_utf8.Given as goal
 
 abbrev pub invariant-loop-i : goal.invariant-loop-i

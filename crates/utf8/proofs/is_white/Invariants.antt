@@ -1,15 +1,8 @@
 -- The table is the definition's list of ranges, and the ranges from i on decide.
-use Prim.Native.Nat.{◌+◌, ◌-◌, ◌≤◌}
-use mathlib.Core.Path.{◌≡◌, sym, ◌∙◌, refl}
-use native.Mathlib.Omega.{arith}
-use lib.ListN.{drop, get_or}
-use mathlib.Core.Bool.{false}
-use mathlib.Core.Logic.{⊎_elim}
-use Rattle.utf8.specs.Utf8.{between}
-use borrow.Author.Rules.{rules}
+use Prim.Native.Nat.{◌-◌, ◌≤◌}
+use mathlib.Core.Path.{◌≡◌}
+use lib.ListN.{drop}
 use Rattle.utf8.specs.White.{white_ranges, in_ranges, is_white}
-use Rattle.utf8.proofs.Rules.{tests}
-use Rattle.utf8.proofs.Ranges.{ranges_hit, ranges_miss, ranges_end}
 use Rattle.utf8.proofs.is_white.Given as goal
 
 abbrev pub invariant-loop-i : goal.invariant-loop-i

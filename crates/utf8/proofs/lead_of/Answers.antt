@@ -3,7 +3,6 @@ use native.Mathlib.Omega.{arith}
 use borrow.Author.Tests.{lt-ltb, le-ltb}
 use Rattle.utf8.specs.Utf8.{lead_of}
 use Rattle.utf8.proofs.Rules.{tests}
-use borrow.Author.Rules.{rules}
 use Rattle.utf8.proofs.lead_of.Goals as goal
 
 pub returns-then-b-lt128 : goal.returns-then-b-lt128

@@ -2,7 +2,6 @@
 use native.Mathlib.Omega.{arith}
 use Rattle.utf8.proofs.Chunks.{on_char}
 use Rattle.utf8.proofs.Trimming.{look_char, look_junk}
-use borrow.Author.Rules.{rules}
 use Rattle.utf8.proofs.look.Goals as goal
 
 pub code_at-requires : goal.code_at-requires

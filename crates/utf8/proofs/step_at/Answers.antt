@@ -2,7 +2,6 @@
 use native.Mathlib.Omega.{arith}
 use Rattle.utf8.proofs.Rules.{tests}
 use Rattle.utf8.proofs.Steps.{step_ascii, step_never, step_cut, step_off, step_whole, step_short}
-use borrow.Author.Rules.{rules}
 use Rattle.utf8.proofs.step_at.Goals as goal
 
 pub returns-then-end-next : goal.returns-then-end-next

@@ -1,13 +1,8 @@
 -- The loop has counted n bytes, and what is counted from there on is the rest of the whole.
-use native.Mathlib.Nat.{add-zero, zero-add, sub-zero}
 use Prim.Native.Nat.{◌+◌, ◌-◌, ◌≤◌}
 use mathlib.Core.Path.{◌≡◌}
-use native.Mathlib.Omega.{arith}
 use lib.Seq.{slice}
-use borrow.Author.Rules.{rules}
 use Rattle.utf8.specs.Utf8.{trailing}
-use Rattle.utf8.proofs.Rules.{tests}
-use Rattle.utf8.proofs.Steps.{trailing_end, trailing_none, trailing_turn, trailing_halt}
 use Rattle.utf8.proofs.trail.Given as goal
 
 abbrev pub invariant-loop-n : goal.invariant-loop-n

@@ -1,7 +1,6 @@
 -- The end is trimmed of what is left once the start is.
 use mathlib.Core.Path.{ap, ◌∙◌}
 use Rattle.utf8.specs.White.{trim_end, trim}
-use borrow.Author.Rules.{rules}
 use Rattle.utf8.proofs.trim.Goals as goal
 
 pub returns : goal.returns

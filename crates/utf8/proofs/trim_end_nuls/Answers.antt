@@ -1,10 +1,6 @@
 -- What is left of the text up to i is what is left of the whole.
-use Prim.Native.Nat.{◌≤◌}
-use mathlib.Core.Path.{◌≡◌, sym, ◌∙◌}
+use mathlib.Core.Path.{sym, ◌∙◌}
 use native.Mathlib.Omega.{arith}
-use lib.Seq.{slice}
-use borrow.Author.Rules.{rules}
-use Rattle.utf8.specs.Nul.{trim_end_nuls}
 use Rattle.utf8.proofs.NulEnds.{end_nul, end_other, end_past}
 use Rattle.utf8.proofs.trim_end_nuls.Goals as goal
 

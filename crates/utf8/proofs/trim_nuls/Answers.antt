@@ -1,7 +1,6 @@
 -- The end is trimmed of what is left once the start is.
 use mathlib.Core.Path.{ap, ◌∙◌}
 use Rattle.utf8.specs.Nul.{trim_end_nuls, trim_nuls}
-use borrow.Author.Rules.{rules}
 use Rattle.utf8.proofs.trim_nuls.Goals as goal
 
 pub returns : goal.returns

@@ -1,12 +1,9 @@
 -- What is left of the text from i on is what is left of the whole.
-use Prim.Native.Nat.{◌-◌, ◌≤◌}
-use mathlib.Core.Path.{◌≡◌, sym, ◌∙◌}
+use mathlib.Core.Path.{sym, ◌∙◌}
 use native.Mathlib.Omega.{arith}
 use lib.Seq.{slice}
-use borrow.Author.Rules.{rules}
 use borrow.Author.Tests.{not-true, not-false}
-use Rattle.utf8.specs.Utf8.{chunks, first_chunk}
-use Rattle.utf8.specs.White.{trim_start}
+use Rattle.utf8.specs.Utf8.{first_chunk}
 use Rattle.utf8.proofs.Chunks.{Stepped, on_look}
 use Rattle.utf8.proofs.Trimming.{start_white, start_stop, start_none}
 use Rattle.utf8.proofs.trim_start.Goals as goal
@@ -14,8 +11,8 @@ use Rattle.utf8.proofs.trim_start.Goals as goal
 pub returns-then-not-seen : goal.returns-then-not-seen
 returns-then-not-seen c =
     let stepped : let a = c.args in let i = c.loop-i.i in Stepped a.s.now i a.end c.look-seen.result.width (first_chunk (slice i a.end a.s.now)) =
-        let a = c.args in
-        rw c.look-seen.ensures.0 (on_look a.s.now c.loop-i.i a.end (omega arith) (omega arith)) in
+    let a = c.args in
+    rw c.look-seen.ensures.0 (on_look a.s.now c.loop-i.i a.end (omega arith) (omega arith)) in
     let g = c.look-seen in
     let l = c.loop-i in
     record {
@@ -27,22 +24,22 @@ returns-then-not-seen c =
 pub overflow_add-i : goal.overflow_add-i
 overflow_add-i c =
     let stepped : let a = c.args in let i = c.loop-i.i in Stepped a.s.now i a.end c.look-seen.result.width (first_chunk (slice i a.end a.s.now)) =
-        let a = c.args in
-        rw c.look-seen.ensures.0 (on_look a.s.now c.loop-i.i a.end (omega arith) (omega arith)) in
+    let a = c.args in
+    rw c.look-seen.ensures.0 (on_look a.s.now c.loop-i.i a.end (omega arith) (omega arith)) in
     omega (arith, stepped)
 
 pub loop-i-smaller : goal.loop-i-smaller
 loop-i-smaller c =
     let stepped : let a = c.args in let i = c.loop-i.i in Stepped a.s.now i a.end c.look-seen.result.width (first_chunk (slice i a.end a.s.now)) =
-        let a = c.args in
-        rw c.look-seen.ensures.0 (on_look a.s.now c.loop-i.i a.end (omega arith) (omega arith)) in
+    let a = c.args in
+    rw c.look-seen.ensures.0 (on_look a.s.now c.loop-i.i a.end (omega arith) (omega arith)) in
     omega (arith, stepped)
 
 pub loop-i-preserved : goal.loop-i-preserved
 loop-i-preserved c =
     let stepped : let a = c.args in let i = c.loop-i.i in Stepped a.s.now i a.end c.look-seen.result.width (first_chunk (slice i a.end a.s.now)) =
-        let a = c.args in
-        rw c.look-seen.ensures.0 (on_look a.s.now c.loop-i.i a.end (omega arith) (omega arith)) in
+    let a = c.args in
+    rw c.look-seen.ensures.0 (on_look a.s.now c.loop-i.i a.end (omega arith) (omega arith)) in
     let g = c.look-seen in
     let p = stepped in (
       omega (arith, p),

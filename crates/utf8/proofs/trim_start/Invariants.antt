@@ -1,14 +1,9 @@
 -- What is left of the text from i on is what is left of the whole.
 use Prim.Native.Nat.{◌-◌, ◌≤◌}
-use mathlib.Core.Path.{◌≡◌, sym, ◌∙◌}
-use native.Mathlib.Omega.{arith}
+use mathlib.Core.Path.{◌≡◌}
 use lib.Seq.{slice}
-use borrow.Author.Rules.{rules}
-use borrow.Author.Tests.{not-true, not-false}
-use Rattle.utf8.specs.Utf8.{chunks, first_chunk}
+use Rattle.utf8.specs.Utf8.{chunks}
 use Rattle.utf8.specs.White.{trim_start}
-use Rattle.utf8.proofs.Chunks.{Stepped, on_look}
-use Rattle.utf8.proofs.Trimming.{start_white, start_stop, start_none}
 use Rattle.utf8.proofs.trim_start.Given as goal
 
 abbrev pub invariant-loop-i : goal.invariant-loop-i

@@ -1,10 +1,6 @@
 -- What is left of the text from i on is what is left of the whole.
-use Prim.Native.Nat.{◌-◌, ◌≤◌}
-use mathlib.Core.Path.{◌≡◌, sym, ◌∙◌}
+use mathlib.Core.Path.{sym, ◌∙◌}
 use native.Mathlib.Omega.{arith}
-use lib.Seq.{slice}
-use borrow.Author.Rules.{rules}
-use Rattle.utf8.specs.Nul.{trim_start_nuls}
 use Rattle.utf8.proofs.NulEnds.{start_nul, start_other, start_past}
 use Rattle.utf8.proofs.trim_start_nuls.Goals as goal
 

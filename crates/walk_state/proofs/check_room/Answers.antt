@@ -1,7 +1,6 @@
 -- `check_room` meets its contract: each test of its ladder is one of the definition's.
 use native.Mathlib.Omega.{arith}
 use Rattle.walk_state.proofs.Room.{room_end, room_row, room_links, room_there}
-use borrow.Author.Rules.{rules}
 use Rattle.walk_state.proofs.check_room.Goals as goal
 
 pub returns-then-offset-size : goal.returns-then-offset-size

@@ -1,12 +1,8 @@
 -- `check_targets` meets its contract: at turn i the targets before i are accepted.
-use Prim.Native.Nat.{◌-◌, ◌≤◌}
 use native.Mathlib.Omega.{arith}
-use mathlib.Core.Path.{◌≡◌, refl, sym, ◌∙◌}
-use lib.ListN.{length, drop}
+use mathlib.Core.Path.{refl, sym, ◌∙◌}
 use Rattle.mdf4.specs.Act.{and_then}
-use Rattle.mdf4.specs.Walk.{targets_ok}
 use Rattle.walk_state.proofs.Listing.{targets_next, targets_end}
-use borrow.Author.Rules.{rules}
 use Rattle.walk_state.proofs.check_targets.Goals as goal
 
 pub loop-i-init : goal.loop-i-init

@@ -2,7 +2,6 @@
 use native.Mathlib.Omega.{arith}
 use mathlib.Core.Path.{◌∙◌}
 use Rattle.walk_state.proofs.Room.{found_null, found_past, found_there}
-use borrow.Author.Rules.{rules}
 use Rattle.walk_state.proofs.make_link.Goals as goal
 
 pub returns-then-target-eq0 : goal.returns-then-target-eq0

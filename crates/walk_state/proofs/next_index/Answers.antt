@@ -2,7 +2,6 @@
 use native.Mathlib.Omega.{arith}
 use borrow.Author.Tests.{eq-eqb, ne_eqb}
 use Rattle.mdf4.specs.Bytes.{bit}
-use borrow.Author.Rules.{rules}
 use Rattle.walk_state.proofs.next_index.Goals as goal
 
 pub returns-then-kind-counted : goal.returns-then-kind-counted

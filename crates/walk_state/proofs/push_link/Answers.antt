@@ -1,7 +1,6 @@
 -- `push_link` meets its contract: its two words are stored behind those in use.
 use native.Mathlib.Omega.{arith}
 use Rattle.walk_state.proofs.States.{link_pushed}
-use borrow.Author.Rules.{rules}
 use Rattle.walk_state.proofs.push_link.Goals as goal
 
 pub returns : goal.returns

@@ -1,13 +1,7 @@
 -- `push_links` meets its contract: at turn i the links to the targets before i are pushed.
-use Prim.Native.Nat.{◌-◌, ◌≤◌}
 use native.Mathlib.Omega.{arith}
-use mathlib.Core.Path.{◌≡◌, refl, ◌∙◌}
-use mathlib.Core.List.{map}
-use lib.ListN.{length, take}
-use Rattle.mdf4.specs.Kinds.{make_link}
-use Rattle.walk_state.specs.Held.{Linked}
+use mathlib.Core.Path.{refl, ◌∙◌}
 use Rattle.walk_state.proofs.Listing.{link_none, link_count, link_more, link_all}
-use borrow.Author.Rules.{rules}
 use Rattle.walk_state.proofs.push_links.Goals as goal
 
 pub loop-i-init : goal.loop-i-init

@@ -1,7 +1,6 @@
 -- `push_row` meets its contract: its words are stored behind those in use, and the index of its kind goes on.
 use native.Mathlib.Omega.{arith}
 use Rattle.walk_state.proofs.States.{row_pushed}
-use borrow.Author.Rules.{rules}
 use Rattle.walk_state.proofs.push_row.Goals as goal
 
 pub returns : goal.returns

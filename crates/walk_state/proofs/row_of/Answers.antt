@@ -1,6 +1,5 @@
 -- `row_of` meets its contract: the index and the first link are its callees'.
 use Rattle.walk_state.specs.Held.{row_made}
-use borrow.Author.Rules.{rules}
 use Rattle.walk_state.proofs.row_of.Goals as goal
 
 pub returns : goal.returns

@@ -1,13 +1,9 @@
 -- `seen` meets its contract: no offset among those passed is the one looked for.
 use Prim.Native.Nat.{◌≤◌, ◌-◌}
-use mathlib.Core.Path.{◌≡◌, ◌∙◌, sym}
+use mathlib.Core.Path.{◌≡◌}
 use mathlib.Core.Bool.{false}
-use native.Mathlib.Omega.{arith}
-use borrow.Author.Rules.{rules}
 use lib.ListN.{length, take}
-use lib.Seq.{take_all}
 use Rattle.mdf4.specs.Act.{elem}
-use Rattle.walk_state.proofs.Offsets.{elem_next, elem_at}
 use Rattle.walk_state.proofs.seen.Given as goal
 
 abbrev pub invariant-loop-i : goal.invariant-loop-i

@@ -1,9 +1,6 @@
 -- `store` meets its contract: at turn i the words before i are stored.
-use Prim.Native.Nat.{◌-◌}
 use native.Mathlib.Omega.{arith}
-use borrow.Author.Rules.{rules}
-use lib.ListN.{length}
-use Rattle.walk_state.proofs.Storing.{Storing, store_none, store_more, store_all}
+use Rattle.walk_state.proofs.Storing.{store_none, store_more, store_all}
 use Rattle.walk_state.proofs.store.Goals as goal
 
 pub loop-i-init : goal.loop-i-init

@@ -1,9 +1,7 @@
 -- `store` meets its contract: at turn i the words before i are stored.
 use Prim.Native.Nat.{◌-◌}
-use native.Mathlib.Omega.{arith}
-use borrow.Author.Rules.{rules}
 use lib.ListN.{length}
-use Rattle.walk_state.proofs.Storing.{Storing, store_none, store_more, store_all}
+use Rattle.walk_state.proofs.Storing.{Storing}
 use Rattle.walk_state.proofs.store.Given as goal
 
 abbrev pub invariant-loop-i : goal.invariant-loop-i

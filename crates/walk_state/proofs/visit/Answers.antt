@@ -1,6 +1,5 @@
 -- `visit` meets its contract: the offset stands behind those in use, or the table is full.
 use native.Mathlib.Omega.{arith}
-use borrow.Author.Rules.{rules}
 use Rattle.walk_state.proofs.States.{visit_on, visit_full}
 use Rattle.walk_state.proofs.visit.Goals as goal
 

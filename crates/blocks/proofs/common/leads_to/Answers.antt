@@ -1,6 +1,5 @@
 -- `leads_to` meets its contract: the test is the definition's.
 use Rattle.mdf4.specs.Kinds.{leads_to}
-use borrow.Author.Rules.{rules}
 use Rattle.blocks.proofs.common.leads_to.Goals as goal
 
 pub returns : goal.returns

@@ -1,5 +1,4 @@
 -- `put_name` meets its contract: a table's name without its zeros is the definition's.
-use borrow.Author.Rules.{rules}
 use mathlib.Core.Path.{sym}
 use lib.Seq.{length-take-le}
 use Rattle.mdf4.specs.Describe.{data_type_names}

@@ -3,7 +3,6 @@ use Prim.Native.Nat.{◌+◌, ◌*◌}
 use native.Mathlib.Omega.{arith}
 use mathlib.Core.Path.{refl}
 use Rattle.blocks.proofs.Extents.{need_short, need_there}
-use borrow.Author.Rules.{rules}
 use Rattle.blocks.proofs.extent.need_from_block.Goals as goal
 
 pub returns-then-actual-least : goal.returns-then-actual-least

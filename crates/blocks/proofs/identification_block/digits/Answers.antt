@@ -1,13 +1,9 @@
 -- `digits` meets its contract: at each turn what is left gives the number of the whole.
-use mathlib.Core.Path.{◌≡◌, sym, ◌∙◌}
-use Prim.Native.Nat.{◌-◌, ◌≤◌}
+use mathlib.Core.Path.{sym, ◌∙◌}
 use native.Mathlib.Omega.{arith}
-use lib.Seq.{slice}
 use Rattle.utf8.proofs.Rules.{tests}
 use Rattle.mdf4.specs.Act.{refusal}
-use Rattle.mdf4.specs.Version.{number}
 use Rattle.blocks.proofs.Version.{number_next, number_big, number_bad, number_none}
-use borrow.Author.Rules.{rules}
 use Rattle.blocks.proofs.identification_block.digits.Goals as goal
 
 pub returns-then-b-lt48 : goal.returns-then-b-lt48

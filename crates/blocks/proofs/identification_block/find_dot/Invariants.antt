@@ -1,8 +1,6 @@
 -- `find_dot` meets its contract: at each turn no '.' is among the bytes passed.
 use Prim.Native.Nat.{◌-◌}
-use native.Mathlib.Omega.{arith}
-use Rattle.blocks.proofs.Version.{DotSought, sought_start, sought_done, sought_hit, sought_miss}
-use borrow.Author.Rules.{rules}
+use Rattle.blocks.proofs.Version.{DotSought}
 use Rattle.blocks.proofs.identification_block.find_dot.Given as goal
 
 abbrev pub invariant-loop-i : goal.invariant-loop-i

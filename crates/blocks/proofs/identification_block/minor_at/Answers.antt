@@ -4,7 +4,6 @@ use native.Mathlib.Omega.{arith}
 use Rattle.mdf4.specs.Act.{refusal}
 use Rattle.mdf4.specs.Version.{parse_u16}
 use Rattle.blocks.proofs.Version.{minor_none, minor_some}
-use borrow.Author.Rules.{rules}
 use Rattle.blocks.proofs.identification_block.minor_at.Goals as goal
 
 pub returns-then-end-dot : goal.returns-then-end-dot

@@ -1,7 +1,6 @@
 -- `number_of` meets its contract: past u16, below 4.10, or a version that is read.
 use native.Mathlib.Omega.{arith}
 use Rattle.blocks.proofs.Version.{version_over, version_old, version_new}
-use borrow.Author.Rules.{rules}
 use Rattle.blocks.proofs.identification_block.number_of.Goals as goal
 
 pub returns-then-sum-gt65535 : goal.returns-then-sum-gt65535

@@ -4,7 +4,6 @@ use Prim.Native.Nat.{◌+◌}
 use native.Mathlib.Omega.{arith}
 use Rattle.mdf4.specs.Act.{refusal}
 use Rattle.blocks.proofs.Version.{parse_none, parse_plus, parse_plain, numeral_none, numeral_some}
-use borrow.Author.Rules.{rules}
 use Rattle.blocks.proofs.identification_block.parse_u16.Goals as goal
 
 pub returns-then-end-at : goal.returns-then-end-at

@@ -3,7 +3,6 @@ use mathlib.Core.Path.{◌∙◌}
 use Rattle.blocks.specs.IdentificationBlock.{version_read}
 use Rattle.blocks.proofs.Told.{told_as}
 use Rattle.blocks.proofs.Version.{major_refused, minor_refused, version_made}
-use borrow.Author.Rules.{rules}
 use Rattle.blocks.proofs.identification_block.version_of.Goals as goal
 
 pub returns-in-Refused : goal.returns-in-Refused

@@ -1,7 +1,6 @@
 -- `header_at` meets its contract: too few bytes are refused, and else the header of the 24 bytes at the offset is read.
 use native.Mathlib.Omega.{arith}
 use Rattle.blocks.proofs.Headers.{too_short, long_enough}
-use borrow.Author.Rules.{rules}
 use Rattle.blocks.proofs.reader.header_at.Goals as goal
 
 -- the file is shorter than what is needed

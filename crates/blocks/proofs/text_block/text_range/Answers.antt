@@ -2,7 +2,6 @@
 use native.Mathlib.Omega.{arith}
 use Rattle.blocks.proofs.Headers.{told}
 use Rattle.blocks.proofs.Texts.{header_inside, range_refused, range_short, range_read}
-use borrow.Author.Rules.{rules}
 use Rattle.blocks.proofs.text_block.text_range.Goals as goal
 
 pub overflow_sub-actual : goal.overflow_sub-actual

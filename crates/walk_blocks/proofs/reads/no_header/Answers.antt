@@ -1,5 +1,4 @@
 -- `no_header` meets its contract: an answer for each variant.
-use borrow.Author.Rules.{rules}
 use Rattle.walk_blocks.proofs.reads.no_header.Goals as goal
 
 pub returns-in-Header : goal.returns-in-Header

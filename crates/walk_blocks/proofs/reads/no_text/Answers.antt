@@ -1,5 +1,4 @@
 -- `no_text` meets its contract: an answer for each variant.
-use borrow.Author.Rules.{rules}
 use Rattle.walk_blocks.proofs.reads.no_text.Goals as goal
 
 pub returns-in-Block : goal.returns-in-Block

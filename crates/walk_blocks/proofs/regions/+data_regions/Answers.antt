@@ -1,16 +1,13 @@
 -- `walk_data_links`, `walk_data_list` and `walk_data_region` meet their contracts: they call each other, and the depth falls at each list entered.
-use Prim.Native.Nat.{ℕ, ◌<◌, ◌+◌, ◌-◌, ◌*◌}
-use mathlib.Core.Path.{◌≡◌, refl, sym, ap, ◌∙◌}
+use mathlib.Core.Path.{refl, sym, ap, ◌∙◌}
 use native.Mathlib.Omega.{arith}
 use native.Mathlib.Nat.{le_refl}
-use lib.ListN.{length}
 use Rattle.mdf4.specs.Act.{Link}
 use Rattle.mdf4.specs.Kinds.{RecordLayout}
 use Rattle.walk_state.specs.Held.{held, said}
 use Rattle.walk_state.proofs.Steps.{on, off, go, stop, last}
 use Rattle.walk_blocks.specs.Regions.{layout}
 use Rattle.walk_blocks.proofs.DataRegions.{region_list, region_block, list_left, Into, list_into, turn_on, turn_off, turn_end}
-use borrow.Author.Rules.{rules}
 use Rattle.walk_blocks.proofs.regions.+data_regions.Goals as goal
 
 pub walk_data_links-loop-i-init : goal.walk_data_links-loop-i-init
@@ -45,7 +42,7 @@ walk_data_list-walk_data_links-r-requires t c =
     let a = c.args in
     let l = c.enter_list-entered.new in
     let g : Into a.depth (layout a.record_size a.invalidation_bytes a.record_id_len) a.addr a.file.now (held a.w a.visited.now a.blocks.now a.links.now) a.w c.in-List.w1 c.in-List.count l.visited l.blocks l.links =
-        list_into _ _ _ _ _ _ _ _ _ _ _ _ c.in-List.is c.enter_list-entered.ensures.opens c.enter_list-entered.ensures.deep in
+    list_into _ _ _ _ _ _ _ _ _ _ _ _ c.in-List.is c.enter_list-entered.ensures.opens c.enter_list-entered.ensures.deep in
     (omega (arith, g.deep), (g.there.later.within, g.there.inside))
 
 pub walk_data_list-returns-in_default-r : goal.walk_data_list-returns-in_default-r
@@ -53,7 +50,7 @@ walk_data_list-returns-in_default-r t c =
     let a = c.args in
     let l = c.enter_list-entered.new in
     let g : Into a.depth (layout a.record_size a.invalidation_bytes a.record_id_len) a.addr a.file.now (held a.w a.visited.now a.blocks.now a.links.now) a.w c.in-List.w1 c.in-List.count l.visited l.blocks l.links =
-        list_into _ _ _ _ _ _ _ _ _ _ _ _ c.in-List.is c.enter_list-entered.ensures.opens c.enter_list-entered.ensures.deep in
+    list_into _ _ _ _ _ _ _ _ _ _ _ _ c.in-List.is c.enter_list-entered.ensures.opens c.enter_list-entered.ensures.deep in
     let e = c.in_default-r.is in
     stop e (g.links_off _ (off e c.walk_data_links-r.ensures))
 
@@ -62,7 +59,7 @@ walk_data_list-data_link-next-requires t c =
     let a = c.args in
     let l = c.enter_list-entered.new in
     let g : Into a.depth (layout a.record_size a.invalidation_bytes a.record_id_len) a.addr a.file.now (held a.w a.visited.now a.blocks.now a.links.now) a.w c.in-List.w1 c.in-List.count l.visited l.blocks l.links =
-        list_into _ _ _ _ _ _ _ _ _ _ _ _ c.in-List.is c.enter_list-entered.ensures.opens c.enter_list-entered.ensures.deep in
+    list_into _ _ _ _ _ _ _ _ _ _ _ _ c.in-List.is c.enter_list-entered.ensures.opens c.enter_list-entered.ensures.deep in
     omega (arith, g.there.inside, g.there.some)
 
 pub walk_data_list-walk_data_region-requires : goal.walk_data_list-walk_data_region-requires
@@ -70,7 +67,7 @@ walk_data_list-walk_data_region-requires t c =
     let a = c.args in
     let l = c.enter_list-entered.new in
     let g : Into a.depth (layout a.record_size a.invalidation_bytes a.record_id_len) a.addr a.file.now (held a.w a.visited.now a.blocks.now a.links.now) a.w c.in-List.w1 c.in-List.count l.visited l.blocks l.links =
-        list_into _ _ _ _ _ _ _ _ _ _ _ _ c.in-List.is c.enter_list-entered.ensures.opens c.enter_list-entered.ensures.deep in
+    list_into _ _ _ _ _ _ _ _ _ _ _ _ c.in-List.is c.enter_list-entered.ensures.opens c.enter_list-entered.ensures.deep in
     (omega (arith, g.deep), (on c.in-On.is c.walk_data_links-r.ensures).within)
 
 pub walk_data_list-returns : goal.walk_data_list-returns
@@ -78,7 +75,7 @@ walk_data_list-returns t c =
     let a = c.args in
     let l = c.enter_list-entered.new in
     let g : Into a.depth (layout a.record_size a.invalidation_bytes a.record_id_len) a.addr a.file.now (held a.w a.visited.now a.blocks.now a.links.now) a.w c.in-List.w1 c.in-List.count l.visited l.blocks l.links =
-        list_into _ _ _ _ _ _ _ _ _ _ _ _ c.in-List.is c.enter_list-entered.ensures.opens c.enter_list-entered.ensures.deep in
+    list_into _ _ _ _ _ _ _ _ _ _ _ _ c.in-List.is c.enter_list-entered.ensures.opens c.enter_list-entered.ensures.deep in
     let m = on c.in-On.is c.walk_data_links-r.ensures in
     last c.walk_data_region.ensures (omega (arith, g.there.later.grew, m.grew)) (g.links_on _ _ _ m.says c.data_link-next.ensures c.make_link-found.ensures)
 

@@ -1,13 +1,9 @@
 -- `check_links` meets its contract: at turn i the targets before i are accepted.
 use Prim.Native.Nat.{◌+◌, ◌-◌, ◌≤◌}
-use native.Mathlib.Omega.{arith}
-use mathlib.Core.Path.{◌≡◌, refl, sym, ◌∙◌}
+use mathlib.Core.Path.{◌≡◌}
 use lib.ListN.{drop}
 use Rattle.mdf4.specs.Bytes.{words}
-use Rattle.mdf4.specs.Act.{and_then}
 use Rattle.mdf4.specs.Walk.{targets_ok}
-use Rattle.walk_blocks.proofs.DataLists.{list_next, list_end}
-use borrow.Author.Rules.{rules}
 use Rattle.walk_blocks.proofs.regions.check_links.Given as goal
 
 abbrev pub invariant-loop-i : goal.invariant-loop-i

@@ -9,7 +9,6 @@ use Rattle.walk_state.proofs.Start.{counted}
 use Rattle.walk_state.proofs.Steps.{on, off}
 use Rattle.walk_blocks.proofs.Entering.{seen_is}
 use Rattle.walk_blocks.proofs.DataLists.{enter_seen, enter_deep, enter_full, enter_new, opened_from, open_refused, not_seen, not_refused}
-use borrow.Author.Rules.{rules}
 use Rattle.walk_blocks.proofs.regions.enter_list.Goals as goal
 
 pub returns-then-seen : goal.returns-then-seen

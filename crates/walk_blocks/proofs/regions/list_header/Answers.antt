@@ -6,7 +6,6 @@ use Rattle.walk_state.proofs.Steps.{stop, last}
 use Rattle.walk_blocks.proofs.Entering.{enter_refused}
 use Rattle.walk_blocks.proofs.Reading.{enter_read}
 use Rattle.walk_blocks.proofs.DataBlocks.{header_refused, header_told}
-use borrow.Author.Rules.{rules}
 use Rattle.walk_blocks.proofs.regions.list_header.Goals as goal
 
 pub returns-in_default : goal.returns-in_default

@@ -10,7 +10,6 @@ use Rattle.walk_state.proofs.Steps.{stop}
 use Rattle.walk_state.proofs.Room.{room_shown}
 use Rattle.walk_state.proofs.Listing.{after_is, block_listed}
 use Rattle.walk_blocks.proofs.DataLists.{words_length}
-use borrow.Author.Rules.{rules}
 use Rattle.walk_blocks.proofs.regions.list_links.Goals as goal
 
 pub returns-in_default : goal.returns-in_default
@@ -32,26 +31,26 @@ returns-in_default-r2 c k h o v t i =
 pub row_of-row-requires : goal.row_of-row-requires
 row_of-row-requires c =
     let shown : (c.args.block.offset + c.args.block.size < 2 ^ 64) × (c.args.w.blocks < length c.args.blocks.now / 12) × (c.args.w.links + c.args.count ≤ length c.args.links.now / 2) =
-        let a = c.args in
-        room_shown a.block.offset a.block.size a.count a.w [] a.blocks.now a.links.now
-        (rw c.in-On-r2.is at (c.check_room-r2.ensures [])) in
+    let a = c.args in
+    room_shown a.block.offset a.block.size a.count a.w [] a.blocks.now a.links.now
+    (rw c.in-On-r2.is at (c.check_room-r2.ensures [])) in
     shown.0
 
 pub push_row-w1-requires : goal.push_row-w1-requires
 push_row-w1-requires c =
     let shown : (c.args.block.offset + c.args.block.size < 2 ^ 64) × (c.args.w.blocks < length c.args.blocks.now / 12) × (c.args.w.links + c.args.count ≤ length c.args.links.now / 2) =
-        let a = c.args in
-        room_shown a.block.offset a.block.size a.count a.w [] a.blocks.now a.links.now
-        (rw c.in-On-r2.is at (c.check_room-r2.ensures [])) in
+    let a = c.args in
+    room_shown a.block.offset a.block.size a.count a.w [] a.blocks.now a.links.now
+    (rw c.in-On-r2.is at (c.check_room-r2.ensures [])) in
     let s = shown.1 in
     record { room = omega (arith, s); dg = c.requires.counted.dg; cg = c.requires.counted.cg; cn = c.requires.counted.cn }
 
 pub push_list-w2-requires : goal.push_list-w2-requires
 push_list-w2-requires c =
     let shown : (c.args.block.offset + c.args.block.size < 2 ^ 64) × (c.args.w.blocks < length c.args.blocks.now / 12) × (c.args.w.links + c.args.count ≤ length c.args.links.now / 2) =
-        let a = c.args in
-        room_shown a.block.offset a.block.size a.count a.w [] a.blocks.now a.links.now
-        (rw c.in-On-r2.is at (c.check_room-r2.ensures [])) in
+    let a = c.args in
+    room_shown a.block.offset a.block.size a.count a.w [] a.blocks.now a.links.now
+    (rw c.in-On-r2.is at (c.check_room-r2.ensures [])) in
     record {
       count_in_bounds = c.requires.count_in_bounds;
       pair_words_in_bounds = omega (arith, shown.2, c.push_row-w1.ensures.links);

@@ -1,5 +1,4 @@
 -- `no_list` meets its contract: an answer for each variant.
-use borrow.Author.Rules.{rules}
 use Rattle.walk_blocks.proofs.regions.no_list.Goals as goal
 
 pub returns-in-Block : goal.returns-in-Block

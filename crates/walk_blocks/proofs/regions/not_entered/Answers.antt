@@ -1,7 +1,6 @@
 -- `not_entered` meets its contract: an answer for each variant.
 use mathlib.Core.Path.{ap, sym}
 use Rattle.walk_blocks.specs.Regions.{handed_up}
-use borrow.Author.Rules.{rules}
 use Rattle.walk_blocks.proofs.regions.not_entered.Goals as goal
 
 pub returns-in-Seen : goal.returns-in-Seen

@@ -1,5 +1,4 @@
 -- `not_opened` meets its contract: an answer for each variant.
-use borrow.Author.Rules.{rules}
 use Rattle.walk_blocks.proofs.regions.not_opened.Goals as goal
 
 pub returns-in-On : goal.returns-in-On

@@ -11,19 +11,18 @@ use Rattle.walk_blocks.proofs.Entering.{enter_refused, enter_on}
 use Rattle.walk_blocks.proofs.Calls.{parsed_err}
 use Rattle.walk_blocks.proofs.Reading.{enter_read}
 use Rattle.walk_blocks.proofs.DataLists.{ListTold, list_told, open_off, open_on, open_refused}
-use borrow.Author.Rules.{rules}
 use Rattle.walk_blocks.proofs.regions.open_list.Goals as goal
 
 pub read_u32-requires : goal.read_u32-requires
 read_u32-requires c =
     let told : ListTold c.args.file.now c.args.addr c.in-Block.list (num c.args.file.now c.args.addr 4) =
-        list_told c.args.file.now c.args.addr c.in-Block.list _ (sym (rw c.in-Block.is at c.parse-read.ensures)) refl in
+    list_told c.args.file.now c.args.addr c.in-Block.list _ (sym (rw c.in-Block.is at c.parse-read.ensures)) refl in
     omega (arith, told.inside)
 
 pub list_links-r-requires : goal.list_links-r-requires
 list_links-r-requires c =
     let told : ListTold c.args.file.now c.args.addr c.in-Block.list (num c.args.file.now c.args.addr 4) =
-        list_told c.args.file.now c.args.addr c.in-Block.list _ (sym (rw c.in-Block.is at c.parse-read.ensures)) refl in
+    list_told c.args.file.now c.args.addr c.in-Block.list _ (sym (rw c.in-Block.is at c.parse-read.ensures)) refl in
     record {
       counted = c.requires;
       count_in_bounds = told.inside;

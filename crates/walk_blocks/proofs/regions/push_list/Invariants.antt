@@ -1,15 +1,11 @@
 -- `push_list` meets its contract: at turn i the links to the targets before i are pushed.
 use Prim.Native.Nat.{◌+◌, ◌-◌, ◌≤◌}
-use native.Mathlib.Omega.{arith}
-use mathlib.Core.Path.{◌≡◌, refl, ◌∙◌}
+use mathlib.Core.Path.{◌≡◌}
 use mathlib.Core.List.{map}
 use lib.ListN.{length, take}
 use Rattle.mdf4.specs.Bytes.{words}
 use Rattle.mdf4.specs.Kinds.{make_link}
 use Rattle.walk_state.specs.Held.{Linked}
-use Rattle.walk_state.proofs.Listing.{link_none}
-use Rattle.walk_blocks.proofs.DataLists.{list_count, list_more, list_all}
-use borrow.Author.Rules.{rules}
 use Rattle.walk_blocks.proofs.regions.push_list.Given as goal
 
 abbrev pub invariant-loop-i : goal.invariant-loop-i

@@ -7,7 +7,6 @@ use Rattle.walk_state.proofs.Start.{counted}
 use Rattle.walk_state.proofs.Steps.{on, off, go, stop, last}
 use Rattle.walk_blocks.proofs.Entering.{seen_is}
 use Rattle.walk_blocks.proofs.DataBlocks.{data_seen, data_off, data_on}
-use borrow.Author.Rules.{rules}
 use Rattle.walk_blocks.proofs.regions.record_data_block.Goals as goal
 
 pub returns-then-seen : goal.returns-then-seen

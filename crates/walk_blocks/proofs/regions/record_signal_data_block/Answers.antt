@@ -2,7 +2,6 @@
 use Rattle.mdf4.specs.Act.{SD}
 use Rattle.mdf4.specs.Kinds.{no_records}
 use Rattle.walk_blocks.proofs.DataBlocks.{data_signal}
-use borrow.Author.Rules.{rules}
 use Rattle.walk_blocks.proofs.regions.record_signal_data_block.Goals as goal
 
 pub returns : goal.returns

@@ -11,7 +11,6 @@ use Rattle.walk_state.proofs.Start.{counted}
 use Rattle.walk_state.proofs.Steps.{on, off, go, stop, last}
 use Rattle.walk_blocks.proofs.Entering.{seen_is}
 use Rattle.walk_blocks.proofs.DataBlocks.{data_unknown, unknown_seen, unknown_off, unknown_short, unknown_on}
-use borrow.Author.Rules.{rules}
 use Rattle.walk_blocks.proofs.regions.record_unknown_block.Goals as goal
 
 pub returns-then-seen : goal.returns-then-seen

@@ -7,7 +7,6 @@ use Rattle.walk_state.specs.Held.{held, said}
 use Rattle.walk_blocks.specs.Regions.{layout}
 use Rattle.walk_state.proofs.Steps.{go, last}
 use Rattle.walk_blocks.proofs.DataBlocks.{block_none, block_data, block_signal, block_unknown}
-use borrow.Author.Rules.{rules}
 use Rattle.walk_blocks.proofs.regions.walk_data_block.Goals as goal
 
 pub returns-then-found-eq0 : goal.returns-then-found-eq0

@@ -5,7 +5,6 @@ use Rattle.blocks.specs.SourceBlock.{source_block_read}
 use Rattle.blocks.proofs.Told.{told_as}
 use Rattle.walk_state.proofs.Steps.{on, off, stop, last}
 use Rattle.walk_blocks.proofs.Walking.{source_refused, source_told, source_tells, source_off, source_on}
-use borrow.Author.Rules.{rules}
 use Rattle.walk_blocks.proofs.texts.enter_source.Goals as goal
 
 pub returns-in_default : goal.returns-in_default

@@ -3,7 +3,6 @@ use mathlib.Core.Path.{sym, ◌∙◌}
 use native.Mathlib.Omega.{arith}
 use Rattle.walk_state.proofs.Steps.{last}
 use Rattle.walk_blocks.proofs.Reading.{tx_mark, md_mark, text_tx, text_md, text_ut}
-use borrow.Author.Rules.{rules}
 use Rattle.walk_blocks.proofs.texts.enter_text.Goals as goal
 
 pub returns-then-mark-eq-ID : goal.returns-then-mark-eq-ID

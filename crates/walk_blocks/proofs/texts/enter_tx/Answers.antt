@@ -10,7 +10,6 @@ use Rattle.blocks.proofs.Told.{text_told}
 use Rattle.walk_state.proofs.Steps.{stop, last}
 use Rattle.walk_blocks.proofs.Entering.{enter_refused}
 use Rattle.walk_blocks.proofs.Reading.{simple_tx, simple_tells, enter_read, tx_mark, tx_none}
-use borrow.Author.Rules.{rules}
 use Rattle.walk_blocks.proofs.texts.enter_tx.Goals as goal
 
 pub returns-in_default : goal.returns-in_default

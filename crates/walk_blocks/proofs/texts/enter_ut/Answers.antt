@@ -9,7 +9,6 @@ use Rattle.blocks.proofs.Plain.{plain_ut}
 use Rattle.walk_state.proofs.Steps.{stop, last}
 use Rattle.walk_blocks.proofs.Entering.{enter_refused}
 use Rattle.walk_blocks.proofs.Reading.{header_refused, header_told, simple_ut, simple_tells, enter_read, ut_none}
-use borrow.Author.Rules.{rules}
 use Rattle.walk_blocks.proofs.texts.enter_ut.Goals as goal
 
 pub returns-in_default : goal.returns-in_default

@@ -1,6 +1,5 @@
 -- `list_plain` meets its contract: it is `list_block` with no targets.
 use Rattle.mdf4.specs.Kinds.{no_records}
-use borrow.Author.Rules.{rules}
 use Rattle.walk_blocks.proofs.texts.list_plain.Goals as goal
 
 pub returns : goal.returns

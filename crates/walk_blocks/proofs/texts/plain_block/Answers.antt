@@ -1,5 +1,4 @@
 -- `plain_block` meets its contract: the mark is made wide.
-use borrow.Author.Rules.{rules}
 use Rattle.walk_blocks.proofs.texts.plain_block.Goals as goal
 
 pub returns : goal.returns

@@ -4,7 +4,6 @@ use native.Mathlib.Omega.{arith}
 use Rattle.walk_state.proofs.Steps.{go, stop}
 use Rattle.walk_blocks.proofs.Entering.{seen_is}
 use Rattle.walk_blocks.proofs.Walking.{conversion_null, conversion_seen, conversion_new}
-use borrow.Author.Rules.{rules}
 use Rattle.walk_blocks.proofs.texts.walk_conversion.Goals as goal
 
 pub returns-then-addr-eq0 : goal.returns-then-addr-eq0

@@ -6,7 +6,6 @@ use Rattle.walk_blocks.specs.Sources.{walk_texts, enter_source}
 use Rattle.walk_state.proofs.Steps.{on, off, go, stop, last}
 use Rattle.walk_blocks.proofs.Entering.{seen_is}
 use Rattle.walk_blocks.proofs.Walking.{link_null, link_seen, link_off, link_on}
-use borrow.Author.Rules.{rules}
 use Rattle.walk_blocks.proofs.texts.walk_source.Goals as goal
 
 pub returns-then-addr-eq0 : goal.returns-then-addr-eq0

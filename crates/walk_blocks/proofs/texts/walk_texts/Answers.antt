@@ -3,7 +3,6 @@ use mathlib.Core.Path.{◌∙◌}
 use native.Mathlib.Omega.{arith}
 use Rattle.walk_state.proofs.Steps.{on, off, stop, last}
 use Rattle.walk_blocks.proofs.Walking.{texts_first, texts_second, texts_third}
-use borrow.Author.Rules.{rules}
 use Rattle.walk_blocks.proofs.texts.walk_texts.Goals as goal
 
 pub returns-in_default : goal.returns-in_default

@@ -1,6 +1,6 @@
 -- `check_name` meets its contract: the name is read, or it is refused.
 use mathlib.Core.Path.{◌≡◌, refl, sym}
-use mathlib.Core.List.{List, [], ◌∷◌}
+use mathlib.Core.List.{List}
 use Prim.Native.Nat.{ℕ}
 use lib.ListN.{length}
 use Rattle.mdf4.specs.Act.{ok}
@@ -11,7 +11,6 @@ use Rattle.channel_name.specs.Name.{name_read, Named}
 use Rattle.blocks.specs.declared.error.MdfError.{MdfError}
 use Rattle.blocks.proofs.Told.{told_as}
 use Rattle.channel_name.proofs.Names.{name_passed, name_stopped}
-use borrow.Author.Rules.{rules}
 use Rattle.walker.proofs.channels.check_name.Goals as goal
 
 -- a name that is not refused

@@ -5,7 +5,6 @@ use Rattle.walk_state.proofs.Start.{counted}
 use Rattle.walk_state.proofs.Steps.{on, off}
 use Rattle.walker.proofs.ChannelSteps.{enter_off, texts_off, data_last, opened, not_opened}
 use Rattle.walker.proofs.Nexts.{next_stop, next_met, next_last}
-use borrow.Author.Rules.{rules}
 use Rattle.walker.proofs.channels.enter_channel.Goals as goal
 
 pub open_channel-r-requires : goal.open_channel-r-requires

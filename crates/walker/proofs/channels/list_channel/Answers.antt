@@ -4,7 +4,6 @@ use Rattle.mdf4.specs.Act.{CN}
 use Rattle.mdf4.specs.Kinds.{no_records}
 use Rattle.walk_state.proofs.Steps.{last}
 use Rattle.walker.proofs.ChannelSteps.{channel_tells, channel_row}
-use borrow.Author.Rules.{rules}
 use Rattle.walker.proofs.channels.list_channel.Goals as goal
 
 pub returns : goal.returns

@@ -1,5 +1,4 @@
 -- `no_channel` meets its contract: the parser's refusal is the channel's.
-use borrow.Author.Rules.{rules}
 use Rattle.walker.proofs.channels.no_channel.Goals as goal
 
 pub returns-in-Block : goal.returns-in-Block

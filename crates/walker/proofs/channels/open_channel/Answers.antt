@@ -7,7 +7,6 @@ use Rattle.blocks.proofs.Told.{told_as}
 use Rattle.walk_blocks.proofs.Entering.{enter_refused}
 use Rattle.walk_blocks.proofs.Calls.{parsed_err}
 use Rattle.walker.proofs.ChannelSteps.{channel_read, channel_unnamed, channel_opens}
-use borrow.Author.Rules.{rules}
 use Rattle.walker.proofs.channels.open_channel.Goals as goal
 
 pub returns-in_default : goal.returns-in_default

@@ -1,5 +1,4 @@
 -- `to_next` meets its contract: the walk goes on to the next block, or it refuses.
-use borrow.Author.Rules.{rules}
 use Rattle.walker.proofs.channels.to_next.Goals as goal
 
 pub returns-in-On : goal.returns-in-On

@@ -1,5 +1,4 @@
 -- `to_opened` meets its contract: the channel is listed, or it refuses.
-use borrow.Author.Rules.{rules}
 use Rattle.walker.proofs.channels.to_opened.Goals as goal
 
 pub returns-in-On : goal.returns-in-On

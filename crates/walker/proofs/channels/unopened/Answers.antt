@@ -1,5 +1,4 @@
 -- `unopened` meets its contract: the channel's refusal is the step's.
-use borrow.Author.Rules.{rules}
 use Rattle.walker.proofs.channels.unopened.Goals as goal
 
 pub returns-in-Channel : goal.returns-in-Channel

@@ -2,7 +2,6 @@
 use native.Mathlib.Omega.{arith}
 use Rattle.walk_state.proofs.Steps.{go, last}
 use Rattle.walker.proofs.ChannelSteps.{data_none, data_some}
-use borrow.Author.Rules.{rules}
 use Rattle.walker.proofs.channels.walk_channel_data.Goals as goal
 
 pub returns-then-channel-ne-VLSD : goal.returns-then-channel-ne-VLSD

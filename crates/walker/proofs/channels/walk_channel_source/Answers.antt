@@ -6,7 +6,6 @@ use Rattle.walk_state.specs.Held.{said}
 use Rattle.walk_state.proofs.Steps.{on, off, stop, last}
 use Rattle.walker.specs.Channels.{channel_source}
 use Rattle.walk_blocks.proofs.Entering.{first_off, second_off, third}
-use borrow.Author.Rules.{rules}
 use Rattle.walker.proofs.channels.walk_channel_source.Goals as goal
 
 pub returns-in_default : goal.returns-in_default

@@ -7,7 +7,6 @@ use Rattle.blocks.proofs.Told.{told_as}
 use Rattle.walk_state.proofs.Steps.{on, off}
 use Rattle.walker.proofs.DataGroups.{group_refused, group_told, group_tells, group_off, group_last}
 use Rattle.walker.proofs.Nexts.{next_stop, next_met, next_last}
-use borrow.Author.Rules.{rules}
 use Rattle.walker.proofs.data_groups.enter_data_group.Goals as goal
 
 pub returns-in_default : goal.returns-in_default

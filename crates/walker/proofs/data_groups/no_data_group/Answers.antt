@@ -1,5 +1,4 @@
 -- `no_data_group` meets its contract: the parser's refusal is the step's.
-use borrow.Author.Rules.{rules}
 use Rattle.walker.proofs.data_groups.no_data_group.Goals as goal
 
 pub returns-in-Block : goal.returns-in-Block

@@ -5,7 +5,6 @@ use Rattle.walk_state.proofs.Steps.{on, off}
 use Rattle.walk_blocks.proofs.Entering.{seen_is}
 use Rattle.walker.proofs.DataGroups.{group_seen, group_full, group_new}
 use Rattle.walker.proofs.Nexts.{next_to, next_stop, next_last}
-use borrow.Author.Rules.{rules}
 use Rattle.walker.proofs.data_groups.walk_data_group.Goals as goal
 
 pub returns-then-seen : goal.returns-then-seen

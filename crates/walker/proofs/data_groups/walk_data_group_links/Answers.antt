@@ -4,7 +4,6 @@ use native.Mathlib.Omega.{arith}
 use lib.ListN.{length}
 use Rattle.walk_state.proofs.Steps.{on, off, stop, last}
 use Rattle.walker.proofs.DataGroups.{groups_on, groups_off, links_first, links_second, links_third}
-use borrow.Author.Rules.{rules}
 use Rattle.walker.proofs.data_groups.walk_data_group_links.Goals as goal
 
 pub returns-in_default : goal.returns-in_default

@@ -1,10 +1,6 @@
 -- `walk_data_groups` meets its contract: a loop over a chain.
-use mathlib.Core.Path.{refl, ◌∙◌}
 use Rattle.mdf4.specs.Walk.{walk_data_group}
-use Rattle.mdf4.proofs.Fuel.{walk_data_group_moves}
-use Rattle.walk_state.proofs.Steps.{go, stop}
-use Rattle.walker.proofs.Chaining.{Step, Going, going, going_on, going_off, gone, left, left_falls, next_on, next_off, said_err}
-use borrow.Author.Rules.{rules}
+use Rattle.walker.proofs.Chaining.{Step, Going, left}
 use Rattle.walker.proofs.data_groups.walk_data_groups.Given as goal
 
 abbrev pub step : Step (Unit {0})

@@ -1,5 +1,4 @@
 -- `without_layout` meets its contract: the walk goes on, or it refuses.
-use borrow.Author.Rules.{rules}
 use Rattle.walker.proofs.data_groups.without_layout.Goals as goal
 
 pub returns-in-On : goal.returns-in-On

@@ -3,7 +3,6 @@ use Rattle.blocks.specs.ChannelGroupBlock.{channel_group_block_read}
 use Rattle.blocks.proofs.Told.{told_as}
 use Rattle.walk_state.proofs.Steps.{on, off}
 use Rattle.walker.proofs.Grouping.{group_read, group_unread, group_unlisted, group_last, grouped_stop, grouped_met, grouped_last}
-use borrow.Author.Rules.{rules}
 use Rattle.walker.proofs.groups.enter_channel_group.Goals as goal
 
 pub returns-in_default : goal.returns-in_default

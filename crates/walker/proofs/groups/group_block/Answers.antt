@@ -1,5 +1,4 @@
 -- `group_block` meets its contract: the mark and the words of 32 bits are made wide.
-use borrow.Author.Rules.{rules}
 use Rattle.walker.proofs.groups.group_block.Goals as goal
 
 pub returns : goal.returns

@@ -4,7 +4,6 @@ use Rattle.mdf4.specs.Act.{CG}
 use Rattle.mdf4.specs.Kinds.{no_records}
 use Rattle.walk_state.proofs.Steps.{last}
 use Rattle.walker.proofs.Grouping.{six_targets, seven_targets, group_tells, group_listed}
-use borrow.Author.Rules.{rules}
 use Rattle.walker.proofs.groups.list_channel_group.Goals as goal
 
 pub returns-then-group-lt7 : goal.returns-then-group-lt7

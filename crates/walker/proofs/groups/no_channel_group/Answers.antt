@@ -1,5 +1,4 @@
 -- `no_channel_group` meets its contract: the parser's refusal is the group's.
-use borrow.Author.Rules.{rules}
 use Rattle.walker.proofs.groups.no_channel_group.Goals as goal
 
 pub returns-in-Block : goal.returns-in-Block

@@ -1,5 +1,4 @@
 -- `to_grouped` meets its contract: the walk goes on to the next group, or it refuses.
-use borrow.Author.Rules.{rules}
 use Rattle.walker.proofs.groups.to_grouped.Goals as goal
 
 pub returns-in-On : goal.returns-in-On

@@ -4,7 +4,6 @@ use Rattle.mdf4.specs.Act.{CG}
 use Rattle.walk_state.proofs.Steps.{on, off}
 use Rattle.walk_blocks.proofs.Entering.{seen_is}
 use Rattle.walker.proofs.Grouping.{group_seen, group_unmarked, group_marked, grouped_go, grouped_stop, grouped_last}
-use borrow.Author.Rules.{rules}
 use Rattle.walker.proofs.groups.walk_channel_group.Goals as goal
 
 pub returns-then-seen : goal.returns-then-seen

@@ -3,7 +3,6 @@ use mathlib.Core.Path.{◌∙◌}
 use native.Mathlib.Omega.{arith}
 use Rattle.walk_state.proofs.Steps.{on, off, stop, last}
 use Rattle.walker.proofs.Grouping.{links_first, links_second, links_third, links_last}
-use borrow.Author.Rules.{rules}
 use Rattle.walker.proofs.groups.walk_channel_group_links.Goals as goal
 
 pub returns-in_default : goal.returns-in_default

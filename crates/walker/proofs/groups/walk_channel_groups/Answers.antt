@@ -1,14 +1,9 @@
 -- `walk_channel_groups` meets its contract: a loop over a chain, which hands on the first group's record layout.
 use mathlib.Core.Path.{◌∙◌}
-use mathlib.Core.Bool.{false}
-use Prim.Native.Nat.{ℕ}
-use Rattle.mdf4.specs.Walk.{Handed, walk_channel_group}
-use Rattle.mdf4.specs.Kinds.{no_records}
 use Rattle.mdf4.proofs.Fuel.{walk_channel_group_moves}
 use Rattle.walk_blocks.specs.Regions.{layout}
-use Rattle.walker.proofs.Chaining.{Step, Going, going, going_on, going_off, gone, left, left_falls}
+use Rattle.walker.proofs.Chaining.{going, going_on, going_off, gone, left_falls}
 use Rattle.walker.proofs.Grouping.{grouped_on, grouped_off, handed_first, handed_again, groups_go, groups_stop}
-use borrow.Author.Rules.{rules}
 use Rattle.walker.proofs.groups.walk_channel_groups.Invariants.{step}
 use Rattle.walker.proofs.groups.walk_channel_groups.Goals as goal
 

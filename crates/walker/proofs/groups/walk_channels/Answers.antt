@@ -1,10 +1,8 @@
 -- `walk_channels` meets its contract: a loop over a chain.
 use mathlib.Core.Path.{refl, ◌∙◌}
-use Rattle.mdf4.specs.Walk.{walk_channel}
 use Rattle.mdf4.proofs.Fuel.{walk_channel_moves}
 use Rattle.walk_state.proofs.Steps.{go, stop}
-use Rattle.walker.proofs.Chaining.{Step, Going, going, going_on, going_off, gone, left, left_falls, next_on, next_off, said_err}
-use borrow.Author.Rules.{rules}
+use Rattle.walker.proofs.Chaining.{going, going_on, going_off, gone, left_falls, next_on, next_off, said_err}
 use Rattle.walker.proofs.groups.walk_channels.Invariants.{step}
 use Rattle.walker.proofs.groups.walk_channels.Goals as goal
 

@@ -5,7 +5,6 @@ use Rattle.blocks.specs.HeaderBlock.{header_block_read}
 use Rattle.blocks.proofs.Told.{told_as}
 use Rattle.walk_state.proofs.Steps.{on, off, stop, last}
 use Rattle.walker.proofs.HeaderWalk.{header_refused, header_told, header_tells, header_off, header_on}
-use borrow.Author.Rules.{rules}
 use Rattle.walker.proofs.header.enter_header.Goals as goal
 
 pub returns-in_default : goal.returns-in_default

@@ -3,7 +3,6 @@ use native.Mathlib.Omega.{arith}
 use Rattle.mdf4.specs.Act.{ID}
 use Rattle.walk_state.proofs.Steps.{stop, last}
 use Rattle.walker.proofs.HeaderWalk.{id_refused, id_told}
-use borrow.Author.Rules.{rules}
 use Rattle.walker.proofs.header.enter_identification.Goals as goal
 
 pub returns-in_default : goal.returns-in_default

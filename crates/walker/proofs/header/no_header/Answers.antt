@@ -1,5 +1,4 @@
 -- `no_header` meets its contract: the parser's refusal is the walk's.
-use borrow.Author.Rules.{rules}
 use Rattle.walker.proofs.header.no_header.Goals as goal
 
 pub returns-in-Block : goal.returns-in-Block

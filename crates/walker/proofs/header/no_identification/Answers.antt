@@ -1,5 +1,4 @@
 -- `no_identification` meets its contract: the parser's refusal is the walk's.
-use borrow.Author.Rules.{rules}
 use Rattle.walker.proofs.header.no_identification.Goals as goal
 
 pub returns-in-Block : goal.returns-in-Block

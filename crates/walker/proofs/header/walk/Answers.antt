@@ -3,7 +3,6 @@ use native.Mathlib.Omega.{arith}
 use lib.ListN.{length}
 use Rattle.walk_state.proofs.Steps.{on, off, stop, last}
 use Rattle.walker.proofs.HeaderWalk.{walk_off, walk_on}
-use borrow.Author.Rules.{rules}
 use Rattle.walker.proofs.header.walk.Goals as goal
 
 pub returns-in_default : goal.returns-in_default

@@ -4,7 +4,6 @@ use Rattle.mdf4.specs.Act.{HD}
 use Rattle.walk_state.proofs.Steps.{on, off, go, stop, last}
 use Rattle.walk_blocks.proofs.Entering.{seen_is}
 use Rattle.walker.proofs.HeaderWalk.{header_seen, header_full, header_new}
-use borrow.Author.Rules.{rules}
 use Rattle.walker.proofs.header.walk_header.Goals as goal
 
 pub returns-then-seen : goal.returns-then-seen

@@ -2,7 +2,6 @@
 use native.Mathlib.Omega.{arith}
 use Rattle.walk_state.proofs.Steps.{on, off, stop, last}
 use Rattle.walker.proofs.HeaderWalk.{links_off, links_on}
-use borrow.Author.Rules.{rules}
 use Rattle.walker.proofs.header.walk_header_links.Goals as goal
 
 pub returns-in_default : goal.returns-in_default

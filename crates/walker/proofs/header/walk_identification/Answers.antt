@@ -5,7 +5,6 @@ use Rattle.walk_state.proofs.Start.{counted}
 use Rattle.walk_state.proofs.Steps.{on, off, go, stop, last}
 use Rattle.walk_blocks.proofs.Entering.{seen_is}
 use Rattle.walker.proofs.HeaderWalk.{id_seen, id_off, id_on}
-use borrow.Author.Rules.{rules}
 use Rattle.walker.proofs.header.walk_identification.Goals as goal
 
 pub returns-then-seen : goal.returns-then-seen

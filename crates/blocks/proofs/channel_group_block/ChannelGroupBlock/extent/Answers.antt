@@ -4,7 +4,6 @@ use Rattle.mdf4.specs.Act.{CG}
 use Rattle.blocks.proofs.Headers.{told}
 use Rattle.blocks.proofs.Extents.{found, head_refused}
 use Rattle.blocks.proofs.ChannelGroupBlock.{cg_headed, cg_sound, cg_unsound}
-use borrow.Author.Rules.{rules}
 use Rattle.blocks.proofs.channel_group_block.ChannelGroupBlock.extent.Goals as goal
 
 pub need_from_block-requires : goal.need_from_block-requires

@@ -1,6 +1,5 @@
 -- `ChannelGroupBlock::fields` meets its contract: each field stands at its place, the last ones behind the links.
 use Rattle.blocks.proofs.ChannelGroupBlock.{channel_group_block_is}
-use borrow.Author.Rules.{rules}
 use Rattle.blocks.proofs.channel_group_block.ChannelGroupBlock.fields.Goals as goal
 
 pub returns : goal.returns

@@ -1,7 +1,6 @@
 -- `ChannelGroupBlock::master` meets its contract: no seventh link, one that counts, or one that does not.
 use native.Mathlib.Omega.{arith}
 use borrow.Author.Tests.{le-leb, lt-leb, eq-eqb, ne_eqb}
-use borrow.Author.Rules.{rules}
 use Rattle.blocks.proofs.channel_group_block.ChannelGroupBlock.master.Goals as goal
 
 pub returns-then-links_nr-lt7 : goal.returns-then-links_nr-lt7

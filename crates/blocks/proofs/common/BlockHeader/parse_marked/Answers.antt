@@ -1,7 +1,6 @@
 -- `BlockHeader::parse_marked` meets its contract: the refusal of the length, the right mark, or a wrong one.
 use native.Mathlib.Omega.{arith}
 use Rattle.blocks.proofs.Headers.{told, right_mark, wrong_mark, passed_on}
-use borrow.Author.Rules.{rules}
 use Rattle.blocks.proofs.common.BlockHeader.parse_marked.Goals as goal
 
 pub returns-then-found-id : goal.returns-then-found-id

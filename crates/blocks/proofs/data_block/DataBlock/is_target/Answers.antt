@@ -2,7 +2,6 @@
 use mathlib.Core.Path.{sym, ◌∙◌}
 use Rattle.mdf4.specs.Act.{Link}
 use Rattle.blocks.proofs.DataBlock.{data_marks}
-use borrow.Author.Rules.{rules}
 use Rattle.blocks.proofs.data_block.DataBlock.is_target.Goals as goal
 
 pub returns-then-leads_to : goal.returns-then-leads_to

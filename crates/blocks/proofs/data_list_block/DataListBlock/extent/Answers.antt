@@ -5,7 +5,6 @@ use Rattle.mdf4.specs.Act.{DL}
 use Rattle.blocks.proofs.Headers.{told}
 use Rattle.blocks.proofs.Extents.{found, head_refused}
 use Rattle.blocks.proofs.DataListBlock.{dl_headed, dl_sound, dl_unsound}
-use borrow.Author.Rules.{rules}
 use Rattle.blocks.proofs.data_list_block.DataListBlock.extent.Goals as goal
 
 pub returns-then-links_nr-eq0 : goal.returns-then-links_nr-eq0

@@ -1,7 +1,6 @@
 -- `DataListBlock::is_target` meets its contract: the mark is the definition's.
 use Rattle.mdf4.specs.Bytes.{little}
 use Rattle.mdf4.specs.Kinds.{shape}
-use borrow.Author.Rules.{rules}
 use Rattle.blocks.proofs.data_list_block.DataListBlock.is_target.Goals as goal
 
 pub returns : goal.returns

@@ -6,7 +6,6 @@ use Rattle.mdf4.specs.Act.{DL}
 use Rattle.blocks.specs.DataListBlock.{data_list_block_of}
 use Rattle.blocks.proofs.Extents.{extent_told, own, own_refused, own_read}
 use Rattle.blocks.proofs.DataListBlock.{dl_fits}
-use borrow.Author.Rules.{rules}
 use Rattle.blocks.proofs.data_list_block.DataListBlock.parse.Goals as goal
 
 pub fields-requires : goal.fields-requires
@@ -27,13 +26,13 @@ returns-in-Bytes c =
 pub overflow_add-end : goal.overflow_add-end
 overflow_add-end c =
     let inside : c.args.offset + c.in-Bytes.n ≤ length c.args.file.now =
-        let a = c.args in
-        (own DL a.file.now a.offset (extent_told c.in-Bytes.is c.extent.ensures)).inside in
+    let a = c.args in
+    (own DL a.file.now a.offset (extent_told c.in-Bytes.is c.extent.ensures)).inside in
     omega (arith, inside)
 
 pub slice_bounds-fields-end : goal.slice_bounds-fields-end
 slice_bounds-fields-end c =
     let inside : c.args.offset + c.in-Bytes.n ≤ length c.args.file.now =
-        let a = c.args in
-        (own DL a.file.now a.offset (extent_told c.in-Bytes.is c.extent.ensures)).inside in
+    let a = c.args in
+    (own DL a.file.now a.offset (extent_told c.in-Bytes.is c.extent.ensures)).inside in
     omega (arith, inside)

@@ -1,6 +1,5 @@
 -- `DataListBlock::words` meets its contract: bit 0 of the flags tells one word from many.
 use borrow.Author.Tests.{eq-eqb, ne_eqb}
-use borrow.Author.Rules.{rules}
 use Rattle.blocks.proofs.data_list_block.DataListBlock.words.Goals as goal
 
 pub returns-then-flags-eq1 : goal.returns-then-flags-eq1

@@ -3,7 +3,6 @@ use mathlib.Core.Path.{◌≡◌}
 use Rattle.mdf4.specs.Act.{Refusal}
 use Rattle.blocks.specs.declared.error.MdfError.{MdfError}
 use Rattle.blocks.specs.Errors.{numbers}
-use borrow.Author.Rules.{rules}
 use Rattle.blocks.proofs.error.MdfError.numbers.Goals as goal
 
 -- an answer, once its case is known

@@ -1,7 +1,6 @@
 -- `IdentificationBlock::fields` meets its contract: each number stands at its place, and both texts are trimmed parts of the file.
 use native.Mathlib.Omega.{arith}
 use Rattle.blocks.proofs.Identification.{identified_is, parts_are}
-use borrow.Author.Rules.{rules}
 use Rattle.blocks.proofs.identification_block.IdentificationBlock.fields.Goals as goal
 
 pub returns : goal.returns

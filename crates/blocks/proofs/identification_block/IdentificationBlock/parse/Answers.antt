@@ -3,7 +3,6 @@ use native.Mathlib.Omega.{arith}
 use Rattle.blocks.specs.IdentificationBlock.{version_read}
 use Rattle.blocks.proofs.Told.{told_as}
 use Rattle.blocks.proofs.Identification.{ident_short, ident_other, ident_refused, ident_read}
-use borrow.Author.Rules.{rules}
 use Rattle.blocks.proofs.identification_block.IdentificationBlock.parse.Goals as goal
 
 pub returns-then-len-lt-MIN_LEN : goal.returns-then-len-lt-MIN_LEN

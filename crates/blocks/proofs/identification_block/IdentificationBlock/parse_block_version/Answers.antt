@@ -2,7 +2,6 @@
 use mathlib.Core.Path.{sym, ◌∙◌}
 use lib.Seq.{slice}
 use Rattle.blocks.proofs.Version.{version_bad, version_good}
-use borrow.Author.Rules.{rules}
 use Rattle.blocks.proofs.identification_block.IdentificationBlock.parse_block_version.Goals as goal
 
 pub returns-then-not-is_utf8 : goal.returns-then-not-is_utf8

@@ -2,7 +2,6 @@
 use Rattle.blocks.specs.TextBlock.{text_range_read}
 use Rattle.blocks.proofs.Told.{told_as}
 use Rattle.blocks.proofs.Texts.{range_inside, md_at, md_refused}
-use borrow.Author.Rules.{rules}
 use Rattle.blocks.proofs.metadata_block.MetadataBlock.parse.Goals as goal
 
 pub trim_nuls-xml-requires : goal.trim_nuls-xml-requires

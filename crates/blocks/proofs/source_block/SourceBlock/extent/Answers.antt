@@ -4,7 +4,6 @@ use Rattle.mdf4.specs.Act.{SI}
 use Rattle.blocks.proofs.Headers.{told}
 use Rattle.blocks.proofs.Extents.{found, head_refused}
 use Rattle.blocks.proofs.SourceBlock.{si_headed, si_needs}
-use borrow.Author.Rules.{rules}
 use Rattle.blocks.proofs.source_block.SourceBlock.extent.Goals as goal
 
 pub need_from_block-requires : goal.need_from_block-requires

@@ -1,7 +1,6 @@
 -- `SourceBlock::link` meets its contract: a link that is there lies inside the block.
 use native.Mathlib.Omega.{arith}
 use borrow.Author.Tests.{lt-ltb, le-ltb}
-use borrow.Author.Rules.{rules}
 use Rattle.blocks.proofs.source_block.SourceBlock.link.Goals as goal
 
 pub returns-then-i-links_nr : goal.returns-then-i-links_nr

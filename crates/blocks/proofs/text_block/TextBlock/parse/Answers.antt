@@ -2,7 +2,6 @@
 use Rattle.blocks.specs.TextBlock.{text_range_read}
 use Rattle.blocks.proofs.Told.{told_as}
 use Rattle.blocks.proofs.Texts.{range_inside, tx_at, tx_refused}
-use borrow.Author.Rules.{rules}
 use Rattle.blocks.proofs.text_block.TextBlock.parse.Goals as goal
 
 pub before_nul-to-requires : goal.before_nul-to-requires
