@@ -38,8 +38,7 @@ overflow_add-child t c =
 pub next_child-next-requires : goal.next_child-next-requires
 next_child-next-requires t c =
     let o = c.open_node-opened in
-    let i = o.ensures.inside _ _ _ _ c.in-Below.is in
-    (
+    let i = o.ensures.inside _ _ _ _ c.in-Below.is in (
       omega (arith, c.requires.0.rows_fit, o.auto.blocks, c.loop-child.auto.blocks),
       omega (arith, i.1, c.requires.0.links_fit),
       omega (arith, c.loop-child-test.true),
