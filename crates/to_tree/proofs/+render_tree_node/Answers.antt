@@ -44,16 +44,10 @@ next_child-next-requires t c =
       omega (arith, c.loop-child-test.true),
     )
 
-pub overflow_sub-bars : goal.overflow_sub-bars
-overflow_sub-bars t c = omega (arith, c.requires.3)
-
 pub bounds-bars-levels : goal.bounds-bars-levels
 bounds-bars-levels t c =
     let i = c.open_node-opened.ensures.inside _ _ _ _ c.in-Below.is in
     omega (arith, i.2, c.loop-child.auto.bars, c.requires.2, c.requires.3)
-
-pub overflow_sub-below : goal.overflow_sub-below
-overflow_sub-below t c = omega (arith, c.loop-child.invariant.1.least)
 
 pub overflow_sub-below-in-loop-child : goal.overflow_sub-below-in-loop-child
 overflow_sub-below-in-loop-child t c =
@@ -87,9 +81,6 @@ returns-in_default-went t c =
           (child_prints _ _ _ _ _ _ _ _ _ _ _ _ _ c.args.node.levels _ l.bars c.args.bars.now (omega (arith, l.auto.bars, c.requires.2)) i.2 c.requires.3 v.0 x.ensures.0) _ c.in_default-went.is),
       bars_kept l.bars _ c.args.node.levels _ x.ensures.1 ∙ v.0,
     )
-
-pub loop-child-smaller : goal.loop-child-smaller
-loop-child-smaller t c = omega (arith, c.loop-child-test.true, c.next_child-next.ensures.least)
 
 pub loop-child-preserved : goal.loop-child-preserved
 loop-child-preserved t c =

@@ -8,18 +8,6 @@ use Rattle.to_tree.proofs.put_roots.Goals as goal
 pub loop-i-init : goal.loop-i-init
 loop-i-init c = rooting _ _ _ _ _ _
 
-pub overflow_mul-i : goal.overflow_mul-i
-overflow_mul-i c = omega (arith, c.requires.0.rows_fit, c.loop-i-test.true)
-
-pub overflow_add-i : goal.overflow_add-i
-overflow_add-i c = omega (arith, c.requires.0.rows_fit, c.loop-i-test.true)
-
-pub offset_bounds-blocks-i : goal.offset_bounds-blocks-i
-offset_bounds-blocks-i c = omega (arith, c.requires.0.rows_fit, c.loop-i-test.true)
-
-pub bounds-blocks-i : goal.bounds-blocks-i
-bounds-blocks-i c = omega (arith, c.requires.0.rows_fit, c.loop-i-test.true, c.loop-i.auto.blocks)
-
 pub loop-i-preserved-then-blocks-i-ne0 : goal.loop-i-preserved-then-blocks-i-ne0
 loop-i-preserved-then-blocks-i-ne0 c = root_listed _ _ _ _ _ _ _ _ _ _ c.loop-i.invariant c.loop-i-test.true c.if-blocks-i-ne0.true
 
