@@ -1,5 +1,6 @@
 // A binary search in the ordered block table.
 #![tactic(auto)]
+
 ghost use Rattle.std.specs.Prelude.{◌*◌, ◌≤◌, length};
 ghost use Rattle.mdf4.specs.Answers.{block_row_words};
 ghost use Rattle.block_search.specs.Search.{Found};

@@ -8,7 +8,7 @@ use lib.Dec.{eqb}
 use lib.ListN.{length, get_or, take, drop, replicate, length-drop}
 use lib.Seq.{slice}
 use lib.IntN.{ℤ}
-use borrow.Author.Tests.{eq-eqb, ne_eqb}
+use borrow.Author.Tests.{ne_eqb}
 use Rattle.utf8.specs.Utf8.{chunks, lossy, char_count}
 use Rattle.utf8.specs.Part.{BeforeNul, NulsOff}
 use Rattle.fmt.specs.Text.{ascii, Wrote}
@@ -211,10 +211,6 @@ line_wrote w1 w2 w3 = then (then w1 w2) w3
 
 pub trailing_wrote : {out o1 : List ℕ} {at a1 : ℕ} → {n : ℕ} → 0 < n → Wrote out at (format (ascii ", trailing=%B") (n ∷ [])) o1 a1 → Wrote out at (trailing_bytes n) o1 a1
 trailing_wrote {n = n} h w = rw (trailing_some n h) w
-
-pub equal_wrote : {out o1 : List ℕ} {at a1 : ℕ} → (f l : ℕ) → f % 2 ≡ 1 → Wrote out at (format (ascii ", equal_length=%B") (l ∷ [])) o1 a1
-    → Wrote out at (cond (eqb (f % 2) 1) (format (ascii ", equal_length=%B") (l ∷ [])) []) o1 a1
-equal_wrote f l e w = rw (eq-eqb (f % 2) 1 e) w
 
 pub padded : {out o1 o2 : List ℕ} {at a1 a2 : ℕ} → {t : List ℕ} {n m : ℕ} → n ≡ min (length t) (2 ^ 64 - 1) → n < 28 → m ≡ 28 - n → Wrote out at t o1 a1 → Wrote o1 a1 (replicate m 32) o2 a2 → Wrote out at (pad_right 28 32 t) o2 a2
 unfolding pad_right

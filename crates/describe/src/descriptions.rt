@@ -28,9 +28,9 @@ use blocks::identification_block::IdentificationBlock;
 use blocks::metadata_block::MetadataBlock;
 use blocks::source_block::SourceBlock;
 use blocks::text_block::TextBlock;
-use little_endian::read_u64;
 use channel_name::{NameRead, read_text_at};
 use fmt::{lossy_len, put_bytes, put_format, put_i16, put_lossy, put_preview};
+use little_endian::read_u64;
 use utf8::{before_nul, count_chars, trim_nuls};
 
 // Characters that a preview shows.

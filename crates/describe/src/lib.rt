@@ -1,6 +1,7 @@
 // What the listing and the tree say of a block: its mark, its description, the line below it, and the names of its links.
 // A block is a row of the block table; what it holds is read in the recording.
 #![tactic(auto)]
+
 ghost use Rattle.std.specs.Prelude.{◌≡◌, ◌+◌, ◌*◌, ◌%◌, ◌≤◌, length};
 ghost use Rattle.utf8.specs.Utf8.{char_count};
 ghost use Rattle.fmt.specs.Text.{Wrote};

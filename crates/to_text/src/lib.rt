@@ -1,5 +1,6 @@
 // The listing of a layout that stands in the tables: the Rust's `to_text`.
 #![tactic(auto)]
+
 ghost use Rattle.std.specs.Prelude.{◌≡◌, ℕ, ◌+◌, ◌-◌, ◌*◌, ◌≤◌, ◌<◌, length, take, drop};
 ghost use Rattle.fmt.specs.Text.{Wrote};
 ghost use Rattle.mdf4.specs.Bytes.{concat_map};

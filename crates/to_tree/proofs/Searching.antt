@@ -8,7 +8,7 @@ use lib.Seq.{drop-cons}
 use borrow.Author.Tests.{eq-eqb, ne_eqb}
 use Rattle.mdf4.specs.Act.{Row, Link}
 use Rattle.mdf4.specs.Answers.{pair_words}
-use Rattle.mdf4.specs.Tree.{child_of, child_at, children}
+use Rattle.mdf4.specs.Tree.{child_of, children}
 use Rattle.mdf4.proofs.Order.{Rising}
 use Rattle.mdf4.proofs.TreeCode.{search_hit, search_miss}
 use Rattle.tables.specs.Rows.{held_rows, held_links, row_at, link_at}

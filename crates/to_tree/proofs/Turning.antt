@@ -8,8 +8,6 @@ use lib.Dec.{leb}
 use lib.ListN.{length, get_or, take, drop, set, drop_of_length-le}
 use lib.Seq.{drop-cons}
 use borrow.Author.Tests.{le-leb, lt-leb, leb-true, leb-false}
-use types.Run.{OneOf, miss}
-use denote.Enum.Declared.{tag_of}
 use Rattle.fmt.specs.Text.{Page, page, emit}
 use Rattle.mdf4.specs.Act.{Refusal, Out, ok, err, and_then, Kind, Row, Link, elem}
 use Rattle.mdf4.specs.Layout.{Layout}
@@ -28,7 +26,6 @@ use Rattle.to_tree.specs.declared.Tree.{Tree}
 use Rattle.to_tree.specs.declared.Tree.TheVariants.{Text, Refused}
 use Rattle.to_tree.specs.declared.Opened.{Opened}
 use Rattle.to_tree.specs.declared.Opened.TheVariants.{Below, Done, Refused as Opened_Refused}
-use Rattle.to_tree.specs.contracts.Opened.{the_type}
 use Rattle.to_tree.proofs.Lines.{child_edge}
 use Rattle.to_tree.proofs.Opening.{node}
 use Rattle.to_tree.proofs.Searching.{from_cons, from_next, from_end}
@@ -173,10 +170,10 @@ child_prints r n b m l w out out' b' a row kind place levels x bars bars₀ h k 
 
 -- a node from its opening on: nothing to follow; a child refuses; all children are printed
 module _ (r : List ℕ) (n : ℕ) (b : List ℕ) (m : ℕ) (l : List ℕ) (levels : ℕ) (bars : List Bool) (out₁ b₁ : List ℕ) (o : Layout → List ℕ → Out Shown) where
-  pub unopened : (q : Opened) (x : Tree) → OneOf (1 ∷ 2 ∷ []) (tag_of the_type q) → x ≡ not_opened q → Opens r n b m l levels bars q out₁ b₁ o → Prints n b m l x out₁ b₁ o
+  pub unopened : (q : Opened) (x : Tree) → ((a k f e : ℕ) → q ≡ Below a k f e → ⊥) → x ≡ not_opened q → Opens r n b m l levels bars q out₁ b₁ o → Prints n b m l x out₁ b₁ o
   unopened (Done a) x g e p = record { told = λ y z v h. rw e (p.told y z v h); same = p.same }
   unopened (Opened_Refused d) x g e p = record { told = λ y z v h. rw e (p.told y z v h); same = p.same }
-  unopened (Below a k f e) x g i p = absurd (miss (1 ∷ 2 ∷ []) 0 tt g)
+  unopened (Below a k f e) x g i p = absurd (g a k f e refl)
 
   module _ (q : Opened) (p : Opens r n b m l levels bars q out₁ b₁ o) (a kind first end : ℕ) (e : q ≡ Below a kind first end) (out' b' : List ℕ) (s : (i : ℕ) → row_at i b' ≡ row_at i b₁) where
     into : (y : Layout) (z v : List ℕ) → Holds n b m l y z v → Into r n m l levels bars a kind first end out₁ b₁ y z (o y v)

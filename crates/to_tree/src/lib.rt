@@ -1,6 +1,7 @@
 // The tree behind the walk: the Rust's to_tree and render_tree_node, into a lent output. A row's tree mark says that its block is
 // already listed.
 #![tactic(auto)]
+
 ghost use Rattle.std.specs.Prelude.{◌≡◌, List, [], ℕ, ◌+◌, ◌*◌, ◌-◌, ◌≤◌, ◌<◌, leb, length, take};
 ghost use Rattle.fmt.specs.Text.{page};
 ghost use Rattle.mdf4.specs.Layout.{Layout};

@@ -1,39 +1,14 @@
 -- `find_row` meets its contract. The invariant: the row lies between. Assumes nothing.
-use Prim.Native.Nat.{◌-◌, ◌≤◌}
 use native.Mathlib.Omega.{arith}
-use Rattle.block_search.proofs.Searching.{Between, between, go_up, go_down, found_none, found_other, found_row}
+use Rattle.block_search.proofs.Searching.{between, go_up, go_down, found_none, found_other, found_row}
 use Rattle.block_search.proofs.find_row.Goals as goal
 
 pub loop-low-init : goal.loop-low-init
 loop-low-init c = (omega arith, omega arith, between _ _ _)
 
-pub overflow_sub-middle : goal.overflow_sub-middle
-overflow_sub-middle c = omega arith
-
-pub overflow_add-middle : goal.overflow_add-middle
-overflow_add-middle c = omega arith
-
-pub overflow_mul-middle : goal.overflow_mul-middle
-overflow_mul-middle c = omega arith
-
-pub offset_bounds-blocks-middle : goal.offset_bounds-blocks-middle
-offset_bounds-blocks-middle c = omega arith
-
-pub bounds-blocks-middle : goal.bounds-blocks-middle
-bounds-blocks-middle c = omega arith
-
-pub overflow_add-low : goal.overflow_add-low
-overflow_add-low c = omega arith
-
-pub loop-low-smaller-then-blocks-middle : goal.loop-low-smaller-then-blocks-middle
-loop-low-smaller-then-blocks-middle c = omega arith
-
 pub loop-low-preserved-then-blocks-middle : goal.loop-low-preserved-then-blocks-middle
 loop-low-preserved-then-blocks-middle c =
     (omega arith, omega arith, go_up _ _ _ _ _ _ (omega arith) c.if-blocks-middle.true c.loop-low.invariant.2)
-
-pub loop-low-smaller : goal.loop-low-smaller
-loop-low-smaller c = omega arith
 
 pub loop-low-preserved : goal.loop-low-preserved
 loop-low-preserved c =
@@ -41,15 +16,6 @@ loop-low-preserved c =
 
 pub returns-then-n-low : goal.returns-then-n-low
 returns-then-n-low c = found_none _ _ _ _ _ c.if-n-low.true c.loop-low.invariant.2
-
-pub overflow_mul-low : goal.overflow_mul-low
-overflow_mul-low c = omega arith
-
-pub offset_bounds-blocks-low : goal.offset_bounds-blocks-low
-offset_bounds-blocks-low c = omega arith
-
-pub bounds-blocks-low : goal.bounds-blocks-low
-bounds-blocks-low c = omega arith
 
 pub returns-then-blocks-low : goal.returns-then-blocks-low
 returns-then-blocks-low c =

@@ -1,7 +1,6 @@
 -- `find_row` meets its contract. The invariant: the row lies between. Assumes nothing.
 use Prim.Native.Nat.{◌-◌, ◌≤◌}
-use native.Mathlib.Omega.{arith}
-use Rattle.block_search.proofs.Searching.{Between, between, go_up, go_down, found_none, found_other, found_row}
+use Rattle.block_search.proofs.Searching.{Between}
 use Rattle.block_search.proofs.find_row.Given as goal
 
 abbrev pub invariant-loop-low : goal.invariant-loop-low

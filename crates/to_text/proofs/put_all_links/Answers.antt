@@ -1,13 +1,7 @@
 -- `put_all_links` meets its contract. The invariant: the links of the rows passed are written.
-use Prim.Native.Nat.{◌-◌, ◌≤◌}
 use native.Mathlib.Omega.{arith}
 use mathlib.Core.Path.{◌≡◌, refl}
-use lib.ListN.{length}
-use Rattle.fmt.specs.Text.{Wrote}
-use Rattle.mdf4.specs.Bytes.{concat_map}
 use Rattle.mdf4.specs.Answers.{block_row_words}
-use Rattle.mdf4.specs.Listing.{block_links}
-use Rattle.tables.specs.Rows.{held_rows, held_links}
 use Rattle.tables.proofs.Sorting.{row_below}
 use Rattle.to_text.proofs.Lines.{rows_start, row_turn}
 use borrow.Author.Rules.{rules}
@@ -21,12 +15,6 @@ put_block_links-a-requires c =
     let i = c.loop-i.i in
     let p = c.requires in
     (omega (arith, row_below block_row_words i c.args.n c.loop-i-test.true, p.rows_fit), p.links_fit, p.row i c.loop-i-test.true)
-
-pub overflow_add-i : goal.overflow_add-i
-overflow_add-i c = omega arith
-
-pub loop-i-smaller : goal.loop-i-smaller
-loop-i-smaller c = omega arith
 
 pub loop-i-preserved : goal.loop-i-preserved
 loop-i-preserved c = (omega arith, search rules, row_turn _ _ _ c.loop-i.invariant.2 c.put_block_links-a.ensures)

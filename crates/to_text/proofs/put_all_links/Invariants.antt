@@ -1,16 +1,11 @@
 -- `put_all_links` meets its contract. The invariant: the links of the rows passed are written.
 use Prim.Native.Nat.{◌-◌, ◌≤◌}
-use native.Mathlib.Omega.{arith}
-use mathlib.Core.Path.{◌≡◌, refl}
+use mathlib.Core.Path.{◌≡◌}
 use lib.ListN.{length}
 use Rattle.fmt.specs.Text.{Wrote}
 use Rattle.mdf4.specs.Bytes.{concat_map}
-use Rattle.mdf4.specs.Answers.{block_row_words}
 use Rattle.mdf4.specs.Listing.{block_links}
 use Rattle.tables.specs.Rows.{held_rows, held_links}
-use Rattle.tables.proofs.Sorting.{row_below}
-use Rattle.to_text.proofs.Lines.{rows_start, row_turn}
-use borrow.Author.Rules.{rules}
 use Rattle.to_text.proofs.put_all_links.Given as goal
 
 abbrev pub invariant-loop-i : goal.invariant-loop-i

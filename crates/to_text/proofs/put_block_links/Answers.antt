@@ -3,28 +3,12 @@ use native.Mathlib.Omega.{arith}
 use Rattle.fmt.proofs.Text.{none, then}
 use Rattle.tables.specs.Rows.{held_links}
 use Rattle.to_text.proofs.Lines.{no_links_shown, links_shown, links_within}
-use borrow.Author.Rules.{rules}
 use Rattle.to_text.proofs.put_block_links.Goals as goal
-
-pub overflow_add-count : goal.overflow_add-count
-overflow_add-count c = search rules
-
-pub offset_bounds-blocks-row-2 : goal.offset_bounds-blocks-row-2
-offset_bounds-blocks-row-2 c = search rules
 
 pub returns-then-count-eq0 : goal.returns-then-count-eq0
 returns-then-count-eq0 c =
     let a = c.args in
     rw (no_links_shown a.file.now a.blocks.now (held_links a.m a.links.now) a.i c.if-count-eq0.true) (none _ _)
-
-pub overflow_add-row-2 : goal.overflow_add-row-2
-overflow_add-row-2 c = omega (arith, overflow_add-count c)
-
-pub offset_bounds-blocks-row-5 : goal.offset_bounds-blocks-row-5
-offset_bounds-blocks-row-5 c = omega (arith, offset_bounds-blocks-row-2 c)
-
-pub bounds-blocks-row-5 : goal.bounds-blocks-row-5
-bounds-blocks-row-5 c = omega (arith, c.requires.0)
 
 pub put_links-requires : goal.put_links-requires
 put_links-requires c =

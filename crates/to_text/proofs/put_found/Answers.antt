@@ -1,7 +1,6 @@
 -- `put_found` meets its contract.
 use Rattle.mdf4.specs.Listing.{found_text}
 use borrow.Author.Tests.{eq-eqb, ne_eqb}
-use borrow.Author.Rules.{rules}
 use Rattle.to_text.proofs.put_found.Goals as goal
 
 pub returns-then-found-eq0 : goal.returns-then-found-eq0

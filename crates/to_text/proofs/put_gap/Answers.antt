@@ -1,6 +1,5 @@
 -- `put_gap` meets its contract.
 use Rattle.mdf4.specs.Listing.{gap_line}
-use borrow.Author.Rules.{rules}
 use Rattle.to_text.proofs.put_gap.Goals as goal
 
 pub returns : goal.returns

@@ -1,14 +1,7 @@
 -- `put_gaps` meets its contract. The invariant: the gaps passed are written behind the heading.
-use Prim.Native.Nat.{◌-◌, ◌≤◌}
 use native.Mathlib.Omega.{arith}
-use mathlib.Core.Path.{◌≡◌, refl}
-use lib.ListN.{length}
-use Rattle.fmt.specs.Text.{Wrote}
+use mathlib.Core.Path.{refl}
 use Rattle.fmt.proofs.Text.{none, same_length}
-use Rattle.mdf4.specs.Bytes.{concat_map}
-use Rattle.mdf4.specs.Answers.{pair_words}
-use Rattle.mdf4.specs.Demand3.{ranges_in}
-use Rattle.mdf4.specs.Listing.{gap_line}
 use Rattle.to_text.proofs.Lines.{gaps_none, gaps_headed, gaps_start, gap_turn}
 use borrow.Author.Rules.{rules}
 use Rattle.to_text.proofs.put_gaps.Goals as goal
@@ -18,12 +11,6 @@ returns-then-n-eq0 c = rw (gaps_none c.args.n c.args.gaps.now c.if-n-eq0.true) (
 
 pub loop-i-init : goal.loop-i-init
 loop-i-init c = (omega arith, refl, gaps_start _ _ _)
-
-pub overflow_add-i-in-loop-i : goal.overflow_add-i-in-loop-i
-overflow_add-i-in-loop-i c = omega arith
-
-pub loop-i-smaller : goal.loop-i-smaller
-loop-i-smaller c = omega arith
 
 pub loop-i-preserved : goal.loop-i-preserved
 loop-i-preserved c = (omega arith, search rules, gap_turn c.args.gaps.now c.loop-i.i c.loop-i.invariant.2 c.put_gap-a.ensures)

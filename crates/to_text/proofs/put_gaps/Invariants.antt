@@ -1,16 +1,12 @@
 -- `put_gaps` meets its contract. The invariant: the gaps passed are written behind the heading.
 use Prim.Native.Nat.{◌-◌, ◌≤◌}
-use native.Mathlib.Omega.{arith}
-use mathlib.Core.Path.{◌≡◌, refl}
+use mathlib.Core.Path.{◌≡◌}
 use lib.ListN.{length}
 use Rattle.fmt.specs.Text.{Wrote}
-use Rattle.fmt.proofs.Text.{none, same_length}
 use Rattle.mdf4.specs.Bytes.{concat_map}
 use Rattle.mdf4.specs.Answers.{pair_words}
 use Rattle.mdf4.specs.Demand3.{ranges_in}
 use Rattle.mdf4.specs.Listing.{gap_line}
-use Rattle.to_text.proofs.Lines.{gaps_none, gaps_headed, gaps_start, gap_turn}
-use borrow.Author.Rules.{rules}
 use Rattle.to_text.proofs.put_gaps.Given as goal
 
 abbrev pub invariant-loop-i : goal.invariant-loop-i

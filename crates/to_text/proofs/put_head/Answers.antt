@@ -1,7 +1,6 @@
 -- `put_head` meets its contract.
 use Rattle.fmt.proofs.Text.{then}
 use Rattle.mdf4.specs.Listing.{head_lines}
-use borrow.Author.Rules.{rules}
 use Rattle.to_text.proofs.put_head.Goals as goal
 
 pub returns : goal.returns

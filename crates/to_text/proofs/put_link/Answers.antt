@@ -1,7 +1,6 @@
 -- `put_link` meets its contract.
 use Rattle.fmt.proofs.Text.{then}
 use Rattle.mdf4.specs.Listing.{link_line}
-use borrow.Author.Rules.{rules}
 use Rattle.to_text.proofs.put_link.Goals as goal
 
 pub returns : goal.returns

@@ -1,10 +1,7 @@
 -- `put_links` meets its contract. The invariant: the links passed are written.
-use Prim.Native.Nat.{ℕ, ◌+◌, ◌-◌, ◌≤◌}
 use native.Mathlib.Omega.{arith}
 use mathlib.Core.Path.{◌≡◌, refl}
-use lib.ListN.{length, take, drop}
-use Rattle.fmt.specs.Text.{Wrote}
-use Rattle.mdf4.specs.Listing.{link_lines}
+use lib.ListN.{drop}
 use Rattle.tables.specs.Rows.{kind_of, held_links}
 use Rattle.to_text.proofs.Lines.{links_start, link_turn}
 use borrow.Author.Rules.{rules}
@@ -12,12 +9,6 @@ use Rattle.to_text.proofs.put_links.Goals as goal
 
 pub loop-i-init : goal.loop-i-init
 loop-i-init c = (omega arith, refl, λ m h. links_start _ (drop c.args.first (held_links m c.args.links.now)) _ _)
-
-pub overflow_add-i : goal.overflow_add-i
-overflow_add-i c = omega arith
-
-pub loop-i-smaller : goal.loop-i-smaller
-loop-i-smaller c = omega arith
 
 pub loop-i-preserved : goal.loop-i-preserved
 loop-i-preserved c = (omega arith, search rules, λ m h. link_turn (kind_of c.args.kind) m c.args.first c.loop-i.i c.args.links.now (omega arith) (c.loop-i.invariant.2 m h) c.put_link-a.ensures)

@@ -1,13 +1,10 @@
 -- `put_links` meets its contract. The invariant: the links passed are written.
 use Prim.Native.Nat.{ℕ, ◌+◌, ◌-◌, ◌≤◌}
-use native.Mathlib.Omega.{arith}
-use mathlib.Core.Path.{◌≡◌, refl}
+use mathlib.Core.Path.{◌≡◌}
 use lib.ListN.{length, take, drop}
 use Rattle.fmt.specs.Text.{Wrote}
 use Rattle.mdf4.specs.Listing.{link_lines}
 use Rattle.tables.specs.Rows.{kind_of, held_links}
-use Rattle.to_text.proofs.Lines.{links_start, link_turn}
-use borrow.Author.Rules.{rules}
 use Rattle.to_text.proofs.put_links.Given as goal
 
 abbrev pub invariant-loop-i : goal.invariant-loop-i

@@ -1,7 +1,6 @@
 -- `put_row` meets its contract: the words are the row's.
 use Rattle.fmt.proofs.Text.{then}
 use Rattle.to_text.proofs.Lines.{row_words_shown}
-use borrow.Author.Rules.{rules}
 use Rattle.to_text.proofs.put_row.Goals as goal
 
 pub returns : goal.returns

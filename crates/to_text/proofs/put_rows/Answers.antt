@@ -1,13 +1,7 @@
 -- `put_rows` meets its contract. The invariant: the rows passed are written.
-use Prim.Native.Nat.{◌-◌, ◌≤◌}
 use native.Mathlib.Omega.{arith}
 use mathlib.Core.Path.{◌≡◌, refl}
-use lib.ListN.{length}
-use Rattle.fmt.specs.Text.{Wrote}
-use Rattle.mdf4.specs.Bytes.{concat_map}
 use Rattle.mdf4.specs.Answers.{block_row_words}
-use Rattle.mdf4.specs.Listing.{row_lines}
-use Rattle.tables.specs.Rows.{held_rows}
 use Rattle.tables.proofs.Sorting.{row_below}
 use Rattle.to_text.proofs.Lines.{rows_start, row_turn}
 use borrow.Author.Rules.{rules}
@@ -18,12 +12,6 @@ loop-i-init c = (omega arith, refl, rows_start _ _ _ _)
 
 pub put_row-a-requires : goal.put_row-a-requires
 put_row-a-requires c = (omega (arith, row_below block_row_words c.loop-i.i c.args.n c.loop-i-test.true, c.requires.0), c.requires.1 c.loop-i.i c.loop-i-test.true)
-
-pub overflow_add-i : goal.overflow_add-i
-overflow_add-i c = omega arith
-
-pub loop-i-smaller : goal.loop-i-smaller
-loop-i-smaller c = omega arith
 
 pub loop-i-preserved : goal.loop-i-preserved
 loop-i-preserved c = (omega arith, search rules, row_turn _ _ _ c.loop-i.invariant.2 c.put_row-a.ensures)

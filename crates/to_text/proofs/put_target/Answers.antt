@@ -2,7 +2,6 @@
 use Rattle.fmt.proofs.Text.{then}
 use Rattle.mdf4.specs.Listing.{target_text}
 use borrow.Author.Tests.{eq-eqb, ne_eqb}
-use borrow.Author.Rules.{rules}
 use Rattle.to_text.proofs.put_target.Goals as goal
 
 pub returns-then-target-eq0 : goal.returns-then-target-eq0

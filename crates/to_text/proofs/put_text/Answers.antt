@@ -1,7 +1,6 @@
 -- `put_text` meets its contract.
 use Rattle.fmt.proofs.Text.{then}
 use Rattle.to_text.proofs.Lines.{text_shown}
-use borrow.Author.Rules.{rules}
 use Rattle.to_text.proofs.put_text.Goals as goal
 
 pub put_rows-a-requires : goal.put_rows-a-requires

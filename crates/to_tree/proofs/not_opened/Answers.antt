@@ -1,5 +1,4 @@
 -- `to_tree::not_opened` meets its contract. Assumes nothing.
-use borrow.Author.Rules.{rules}
 use mathlib.Core.Path.{ap, sym}
 use Rattle.to_tree.specs.Printing.{not_opened}
 use Rattle.to_tree.proofs.not_opened.Goals as goal

@@ -1,5 +1,4 @@
 -- `to_tree::open_node` meets its contract. Assumes nothing.
-use borrow.Author.Rules.{rules}
 use native.Mathlib.Omega.{arith}
 use Rattle.to_tree.proofs.Opening.{open_deep, open_done, open_below, links_fit}
 use Rattle.to_tree.proofs.open_node.Goals as goal

@@ -1,5 +1,4 @@
 -- `to_tree::put_tree` meets its contract. Assumes nothing.
-use borrow.Author.Rules.{rules}
 use mathlib.Core.Path.{refl}
 use Rattle.to_tree.proofs.Turning.{tree_met}
 use Rattle.to_tree.proofs.put_tree.Goals as goal

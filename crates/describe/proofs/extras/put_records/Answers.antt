@@ -1,6 +1,5 @@
 -- `put_records` meets its contract: the record size is not 0, so the payload can be divided by it.
 use Rattle.describe.proofs.Written.{records_wrote}
-use borrow.Author.Rules.{rules}
 use Rattle.describe.proofs.extras.put_records.Goals as goal
 
 pub returns : goal.returns

@@ -1,7 +1,6 @@
 -- `list_link_len` meets its contract: an output counts what is put even where it has no room.
 use native.Mathlib.Omega.{arith}
 use Rattle.fmt.proofs.Room.{counted}
-use borrow.Author.Rules.{rules}
 use Rattle.describe.proofs.links.list_link_len.Goals as goal
 
 pub returns : goal.returns

@@ -5,7 +5,7 @@ use borrow.Author.Rules.{rules}
 use Rattle.describe.proofs.links.name_place.Goals as goal
 
 pub returns-then-kind-eq2 : goal.returns-then-kind-eq2
-returns-then-kind-eq2 c = hd_placed c.args.kind c.args.i (omega arith) c.IsPlace_in.ensures
+returns-then-kind-eq2 c = hd_placed c.args.kind c.args.i (omega arith) c.place_in.ensures
 
 pub returns-then-kind-eq3 : goal.returns-then-kind-eq3
 returns-then-kind-eq3 c = dg_placed c.args.kind c.args.i (omega arith) c.place_in-then-kind-eq3.ensures

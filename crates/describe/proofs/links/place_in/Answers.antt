@@ -1,7 +1,6 @@
 -- `place_in` meets its contract: the name is one of the kind's, or there is none.
 use native.Mathlib.Omega.{arith}
 use Rattle.describe.proofs.Names.{placed_below, placed_none}
-use borrow.Author.Rules.{rules}
 use Rattle.describe.proofs.links.place_in.Goals as goal
 
 pub returns-then-i-count : goal.returns-then-i-count

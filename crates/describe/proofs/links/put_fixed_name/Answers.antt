@@ -4,7 +4,6 @@ use lib.Seq.{length-take-le}
 use Rattle.mdf4.specs.Kinds.{shape}
 use Rattle.blocks.proofs.DataType.{name_fits, name_cut}
 use Rattle.describe.specs.Links.{link_names}
-use borrow.Author.Rules.{rules}
 use Rattle.describe.proofs.links.put_fixed_name.Goals as goal
 
 pub slice_bounds-name-end : goal.slice_bounds-name-end

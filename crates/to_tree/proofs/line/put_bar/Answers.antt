@@ -1,5 +1,4 @@
 -- `to_tree::line::put_bar` meets its contract. Assumes nothing.
-use borrow.Author.Rules.{rules}
 use Rattle.to_tree.proofs.Lines.{wrote_bar_last, wrote_bar_more}
 use Rattle.to_tree.proofs.line.put_bar.Goals as goal
 

@@ -1,5 +1,4 @@
 -- `to_tree::line::put_connector` meets its contract. Assumes nothing.
-use borrow.Author.Rules.{rules}
 use Rattle.to_tree.proofs.Lines.{wrote_connector_last, wrote_connector_more}
 use Rattle.to_tree.proofs.line.put_connector.Goals as goal
 

@@ -1,5 +1,4 @@
 -- `to_tree::line::put_edge` meets its contract. Assumes nothing.
-use borrow.Author.Rules.{rules}
 use Rattle.fmt.proofs.Text.{then}
 use Rattle.to_tree.proofs.Lines.{wrote_edge, wrote_root}
 use Rattle.to_tree.proofs.line.put_edge.Goals as goal

@@ -1,5 +1,4 @@
 -- `to_tree::line::put_end` meets its contract. Assumes nothing.
-use borrow.Author.Rules.{rules}
 use Rattle.fmt.specs.Text.{ascii}
 use Rattle.to_tree.proofs.Lines.{wrote_end}
 use Rattle.to_tree.proofs.line.put_end.Goals as goal

@@ -1,5 +1,4 @@
 -- `to_tree::line::put_node_line` meets its contract. Assumes nothing.
-use borrow.Author.Rules.{rules}
 use Rattle.fmt.proofs.Text.{then}
 use Rattle.to_tree.proofs.Lines.{wrote_line}
 use Rattle.to_tree.proofs.line.put_node_line.Goals as goal

@@ -1,12 +1,6 @@
 -- `to_tree::line::put_prefix` meets its contract. The invariant: the bars passed are written. Assumes nothing.
-use Prim.Native.Nat.{◌≤◌, ◌-◌}
-use borrow.Author.Rules.{rules}
 use native.Mathlib.Omega.{arith}
 use mathlib.Core.Path.{◌≡◌, refl}
-use lib.ListN.{length, take}
-use Rattle.fmt.specs.Text.{Wrote}
-use Rattle.mdf4.specs.Tree.{prefix_text}
-use Rattle.to_tree.specs.Lines.{flags}
 use Rattle.to_tree.proofs.Lines.{no_bars, then_bar}
 use Rattle.to_tree.proofs.line.put_prefix.Goals as goal
 
@@ -26,14 +20,5 @@ returns c =
     let e : c.loop-i.i ≡ c.args.depth = omega arith in
     rw e at v.2
 
-pub bounds-bars-i : goal.bounds-bars-i
-bounds-bars-i c = omega arith
-
 pub put_bar-a-requires : goal.put_bar-a-requires
 put_bar-a-requires c = tt
-
-pub overflow_add-i : goal.overflow_add-i
-overflow_add-i c = omega arith
-
-pub loop-i-smaller : goal.loop-i-smaller
-loop-i-smaller c = omega arith

@@ -1,13 +1,10 @@
 -- `to_tree::line::put_prefix` meets its contract. The invariant: the bars passed are written. Assumes nothing.
 use Prim.Native.Nat.{◌≤◌, ◌-◌}
-use borrow.Author.Rules.{rules}
-use native.Mathlib.Omega.{arith}
-use mathlib.Core.Path.{◌≡◌, refl}
+use mathlib.Core.Path.{◌≡◌}
 use lib.ListN.{length, take}
 use Rattle.fmt.specs.Text.{Wrote}
 use Rattle.mdf4.specs.Tree.{prefix_text}
 use Rattle.to_tree.specs.Lines.{flags}
-use Rattle.to_tree.proofs.Lines.{no_bars, then_bar}
 use Rattle.to_tree.proofs.line.put_prefix.Given as goal
 
 abbrev pub invariant-loop-i : goal.invariant-loop-i

@@ -1,5 +1,4 @@
 -- `to_tree::search::child_row` meets its contract. Assumes nothing.
-use borrow.Author.Rules.{rules}
 use Rattle.to_tree.proofs.Searching.{leads_none, leads_row}
 use Rattle.to_tree.proofs.search.child_row.Goals as goal
 

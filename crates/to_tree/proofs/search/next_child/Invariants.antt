@@ -1,8 +1,6 @@
 -- `to_tree::search::next_child` meets its contract. The invariant: no link passed leads to a row. Assumes nothing.
 use Prim.Native.Nat.{◌-◌}
-use native.Mathlib.Omega.{arith}
-use borrow.Author.Rules.{rules}
-use Rattle.to_tree.proofs.Searching.{Passed, passed_none, passed_one, next_row, next_none}
+use Rattle.to_tree.proofs.Searching.{Passed}
 use Rattle.to_tree.proofs.search.next_child.Given as goal
 
 abbrev pub invariant-loop-i : goal.invariant-loop-i

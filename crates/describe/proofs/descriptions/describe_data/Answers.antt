@@ -1,0 +1,7 @@
+-- `describe_data` meets its contract: the payload fills one template.
+use Rattle.describe.proofs.Written.{dt_wrote}
+use borrow.Author.Rules.{rules}
+use Rattle.describe.proofs.descriptions.describe_data.Goals as goal
+
+pub returns : goal.returns
+returns c = search (rules, dt_wrote)
