@@ -15,15 +15,15 @@ import os
 import struct
 import sys
 
-USES = """use mathlib.Core.Path.{_≡_, refl}
-use mathlib.Core.List.{List, [], _∷_, _++_}
+USES = """use mathlib.Core.Path.{◌≡◌, refl}
+use mathlib.Core.List.{List, [], ◌∷◌, ◌++◌}
 use Prim.Native.Nat.{ℕ}
 use lib.ListN.{replicate}
-use Rattle·fmt.specs.Text.{ascii}
-use Rattle·mdf4.specs.Act.{%s}
-use Rattle·mdf4.specs.Answers.{layout-exit, to-text-exit, to-tree-exit, clear-list-exit}
-use Rattle·mdf4.proofs.Computed.{computed}
-use Rattle·mdf4.proofs.Recordings.{%s}
+use Rattle.fmt.specs.Text.{ascii}
+use Rattle.mdf4.specs.Act.{%s}
+use Rattle.mdf4.specs.Answers.{layout_exit, to_text_exit, to_tree_exit, clear_list_exit}
+use Rattle.mdf4.proofs.Computed.{computed}
+use Rattle.mdf4.proofs.Recordings.{%s}
 
 """
 
@@ -162,7 +162,7 @@ def module(name, r, answers, amended):
                " links = replicate %d 0; gaps = replicate %d 0; scratch = replicate %d 0; out = replicate %d 0 }\n" \
                "unfolding computed recording\n%s = refl\n\n" % ((label, entry) + lent + four + lent + (label,))
     if w[0] == 1:
-        for label, entry in (("layout", "layout-exit"), ("text", "to-text-exit"), ("tree", "to-tree-exit"), ("clear", "clear-list-exit")):
+        for label, entry in (("layout", "layout_exit"), ("text", "to_text_exit"), ("tree", "to_tree_exit"), ("clear", "clear_list_exit")):
             out += refused(label, entry, (999, 9999, 999, 999, 999, 9), w[1:5])
         return out.rstrip("\n") + "\n"
     v, b, l, g = w[1:5]
@@ -189,14 +189,14 @@ def module(name, r, answers, amended):
                "unfolding computed recording visited links gaps %s\n%s = refl\n\n" % (
                    label, entry, v, 12 * b, 2 * l, 2 * g, scratch_words, out_bytes, v, b, l, g, out_bytes, tree_mark, scratch_words, shown, tree_mark, label)
     out += "blocks : List ℕ\nblocks =\n%s\n\n" % exits(0)
-    out += answer("layout", "layout-exit", 0, 0, "blocks", "    []")
-    out += answer("text", "to-text-exit", 0, len(text), "blocks", content(text, 1))
+    out += answer("layout", "layout_exit", 0, 0, "blocks", "    []")
+    out += answer("text", "to_text_exit", 0, len(text), "blocks", content(text, 1))
     if any(flags):
-        out += refused("clear", "clear-list-exit", (v, 12 * b, 2 * l, 2 * g, 2 * scratch, len(clr)), (16, 60) + flags)
+        out += refused("clear", "clear_list_exit", (v, 12 * b, 2 * l, 2 * g, 2 * scratch, len(clr)), (16, 60) + flags)
     else:
-        out += answer("clear", "clear-list-exit", 2 * scratch, len(clr), "blocks", table(clr))
-    out += "marked-blocks : List ℕ\nmarked-blocks =\n%s\n\n" % exits(1)
-    out += answer("tree", "to-tree-exit", 0, len(tree), "marked-blocks", content(tree, 1))
+        out += answer("clear", "clear_list_exit", 2 * scratch, len(clr), "blocks", table(clr))
+    out += "marked_blocks : List ℕ\nmarked_blocks =\n%s\n\n" % exits(1)
+    out += answer("tree", "to_tree_exit", 0, len(tree), "marked_blocks", content(tree, 1))
     return out.rstrip("\n") + "\n"
 
 
