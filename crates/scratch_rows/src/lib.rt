@@ -2,6 +2,7 @@
 // for each channel name that is read and one for each link with four bytes inside the file; a link that leads to a block, listed or
 // not, has one for the block's header and one for its extent instead (document 02, order 1). What these ranges leave is clear.
 #![tactic(auto)]
+
 ghost use Rattle.std.specs.Prelude.{◌≡◌, ℕ, ◌+◌, ◌*◌, ◌^◌, ◌≤◌, ◌<◌, length};
 ghost use Rattle.mdf4.specs.Bytes.{concat_map};
 ghost use Rattle.mdf4.specs.Act as spec;
