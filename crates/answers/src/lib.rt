@@ -1,6 +1,7 @@
 // What the entries answer, and how those with an output of bytes end. specs/Entries.antt says what an answer and the tables at exit are
 // in the definition's terms.
 #![tactic(auto)]
+
 ghost use Rattle.std.specs.Prelude.{◌≡◌, List, ℕ, length, replicate};
 ghost use Rattle.fmt.specs.Text.{Wrote};
 ghost use Rattle.mdf4.specs.Act.{err};

@@ -1,5 +1,6 @@
 // The entry `blank`: the clear bytes of the recording become 0.
 #![tactic(auto)]
+
 ghost use Rattle.std.specs.Prelude.{◌≡◌, [], length, replicate};
 ghost use Rattle.mdf4.specs.Answers.{blank_exit, blank_recording};
 ghost use Rattle.answers.specs.Entries.{left};

@@ -1,5 +1,6 @@
 // What blanker and preview do with the ranges that the rows of a scratch table leave: zero their bytes, or count those that are not 0.
 #![tactic(auto)]
+
 ghost use Rattle.std.specs.Prelude.{◌≡◌, ◌∷◌, [], ◌*◌, ◌≤◌, length};
 ghost use Rattle.mdf4.specs.Layout.{compute_gaps};
 ghost use Rattle.mdf4.specs.Blank.{zeroed, nonzero};

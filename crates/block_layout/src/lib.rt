@@ -1,6 +1,7 @@
 // The entries of the block layout: each takes the recording and the lent tables, walks by itself, and answers the rows and bytes in
 // use or a refusal. Those that go over the clear ranges stand in crates of their own and are passed on.
 #![tactic(auto)]
+
 ghost use Rattle.std.specs.Prelude.{◌≡◌, [], length};
 ghost use Rattle.mdf4.specs.Answers.{layout_exit, to_text_exit, to_tree_exit};
 ghost use Rattle.answers.specs.Entries.{left, Fits};

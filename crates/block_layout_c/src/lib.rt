@@ -1,6 +1,7 @@
 // The entries for C and Rust to call: each does what the entry of the same name does, and its answer goes out as words.
 // include/block_layout.h declares them.
 #![tactic(auto)]
+
 ghost use Rattle.std.specs.Prelude.{◌≡◌, [], length};
 ghost use Rattle.mdf4.specs.Answers.{layout_exit, to_text_exit, to_tree_exit, clear_list_exit, blank_exit, blank_recording, preview_exit};
 ghost use Rattle.file_layout.specs.Tables.{lent};

@@ -1,6 +1,7 @@
 // What clear list, blanker and preview begin with: the layout of a finalised recording in the tables, and in the scratch table the rows
 // that leave its clear ranges.
 #![tactic(auto)]
+
 ghost use Rattle.std.specs.Prelude.{ℕ, length};
 ghost use Rattle.file_layout.specs.Tables.{lent};
 ghost use Rattle.clear_layout.specs.Clearable.{ClearableMet};

@@ -1,6 +1,7 @@
 // The clear ranges of an accepted recording: the scratch table takes a row for each range that is not clear, by start, and the sweep
 // over the rows finds what they leave. Clear list, blanker and preview go over the ranges by it.
 #![tactic(auto)]
+
 ghost use Rattle.std.specs.Prelude.{◌≡◌, ◌*◌, ◌≤◌, length};
 ghost use Rattle.mdf4.specs.Layout.{compute_gaps, Layout, layout_of};
 ghost use Rattle.mdf4.specs.Answers.{pair_words};

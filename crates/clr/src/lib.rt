@@ -1,5 +1,6 @@
 // The CLR bytes of the ranges that the rows of a scratch table leave.
 #![tactic(auto)]
+
 ghost use Rattle.std.specs.Prelude.{◌≡◌, ◌*◌, ◌≤◌, length};
 ghost use Rattle.fmt.specs.Text.{Wrote};
 ghost use Rattle.mdf4.specs.Bytes.{concat_map};

@@ -1,6 +1,7 @@
 // The layout of a recording in the lent tables, the Rust's `FileLayout::from_bytes`, in steps: the walk, what an entry asks besides,
 // the gaps.
 #![tactic(auto)]
+
 ghost use Rattle.std.specs.Prelude.{◌≡◌, List, ℕ, ◌*◌, ◌≤◌, length};
 ghost use Rattle.mdf4.specs.Act.{ok};
 ghost use Rattle.mdf4.specs.Layout.{finalized};

@@ -1,5 +1,6 @@
 // Whether a recording is finalised (document 02, order 4): what an entry asks that must not take an unfinished one.
 #![tactic(auto)]
+
 ghost use Rattle.std.specs.Prelude.{◌≡◌, ◌&&◌, ◌≤◌, eqb, length};
 ghost use Rattle.mdf4.specs.Layout.{finalized};
 ghost use Rattle.finalized.specs.Flags.{told};

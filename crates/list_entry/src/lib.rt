@@ -1,5 +1,6 @@
 // The entry `clear_list`: the bytes of the clear list in the output.
 #![tactic(auto)]
+
 ghost use Rattle.std.specs.Prelude.{◌≡◌, length, replicate};
 ghost use Rattle.mdf4.specs.Answers.{clear_list_exit};
 ghost use Rattle.answers.specs.Entries.{left, Fits};

@@ -1,5 +1,6 @@
 // The entry `preview`: how many bytes of each clear range the blanker would change.
 #![tactic(auto)]
+
 ghost use Rattle.std.specs.Prelude.{◌≡◌, length, replicate};
 ghost use Rattle.mdf4.specs.Answers.{preview_exit};
 ghost use Rattle.answers.specs.Entries.{left, Fits};

@@ -2,9 +2,10 @@
 // for each channel name that is read and one for each link with four bytes inside the file; a link that leads to a block, listed or
 // not, has one for the block's header and one for its extent instead (document 02, order 1). What these ranges leave is clear.
 #![tactic(auto)]
+
 ghost use Rattle.std.specs.Prelude.{◌≡◌, ℕ, ◌+◌, ◌*◌, ◌^◌, ◌≤◌, ◌<◌, length};
 ghost use Rattle.mdf4.specs.Bytes.{concat_map};
-ghost use Rattle.mdf4.specs.Act.{DL};
+ghost use Rattle.mdf4.specs.Act as spec;
 ghost use Rattle.mdf4.specs.Kinds.{read_len, make_link};
 ghost use Rattle.mdf4.specs.Reads.{leads_to_block};
 ghost use Rattle.mdf4.specs.Answers.{block_row_words, pair_words};
@@ -50,8 +51,8 @@ const BLOCK_MARK: u32 = 0x2323;
 
 // The read bytes of a data list.
 fn list_len(file: &[u8], offset: u64) -> u64
-    requires { offset + read_len DL file.now offset ≤ length file.now }
-    ensures { result ≡ read_len DL file.now offset }
+    requires { offset + read_len spec.DL file.now offset ≤ length file.now }
+    ensures { result ≡ read_len spec.DL file.now offset }
 {
     let at = offset as usize;
     let links_nr = read_u64(file, at + 16);

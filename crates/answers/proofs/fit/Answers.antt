@@ -8,18 +8,18 @@ use Rattle.answers.proofs.Exits.{fit_refused, fit_accepted}
 use Rattle.answers.proofs.fit.Goals as goal
 
 pub returns-then-lent-bytes : goal.returns-then-lent-bytes
-returns-then-lent-bytes c = (
-  λ n y p t f h w.
+returns-then-lent-bytes c = record {
+  exit = λ n y p t f h w.
       let small : n.out + 1 < 2 ^ 64 = omega (arith, h.out) in
-      c.refuse.ensures.0 n h
-      ∙ rw h.out (sym (ap (exit n) (fit_refused n y p t small w (omega (arith, h.out, c.if-lent-bytes.true))))),
-  c.refuse.ensures.1,
-)
+      c.refuse.ensures.exit n h
+      ∙ rw h.out (sym (ap (exit n) (fit_refused n y p t small w (omega (arith, h.out, c.if-lent-bytes.true)))));
+  fits = c.refuse.ensures.fits;
+}
 
 pub returns : goal.returns
-returns c = (
-  λ n y p t f h w.
+returns c = record {
+  exit = λ n y p t f h w.
       let small : n.out + 1 < 2 ^ 64 = omega (arith, h.out) in
-      fit_accepted n y p t small w (omega (arith, h.out, c.if-lent-bytes.false)) f,
-  record { is = c.if-lent-bytes.false },
-)
+      fit_accepted n y p t small w (omega (arith, h.out, c.if-lent-bytes.false)) f;
+  fits = record { is = c.if-lent-bytes.false };
+}

@@ -4,4 +4,7 @@ use Rattle.answers.proofs.Exits.{refused_exit}
 use Rattle.answers.proofs.refuse.Goals as goal
 
 pub returns : goal.returns
-returns c = (λ n h. refused_exit n _ (search rules) (search rules) h, record { is = tt })
+returns c = record {
+  exit = λ n h. refused_exit n _ (search rules) (search rules) h;
+  fits = record { is = tt };
+}

@@ -5,4 +5,7 @@ use Rattle.answers.proofs.Exits.{scratch_zero}
 use Rattle.blank_entry.proofs.blank.Goals as goal
 
 pub returns : goal.returns
-returns c = (scratch_zero _ _ _ _ _ _ _ (length c.args.scratch.now) (search rules) c.blank_ranges-answer.auto.scratch c.blank_ranges-answer.ensures.0, c.blank_ranges-answer.ensures.1)
+returns c = record {
+  exit = scratch_zero _ _ _ _ _ _ _ (length c.args.scratch.now) (search rules) c.blank_ranges-answer.auto.scratch c.blank_ranges-answer.ensures.exit;
+  recording = c.blank_ranges-answer.ensures.recording;
+}

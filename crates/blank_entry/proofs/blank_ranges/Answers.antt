@@ -22,14 +22,17 @@ returns-in-Tables c =
     let a = c.args in
     let n = lent a.visited.now a.blocks.now a.links.now a.gaps.now (length a.scratch.now) 0 in
     let s = clear_tables {n = n} (c.lay_clear-laid.ensures 0) c.in-Tables.is in
-    (blank_accepted s refl, rw s.leaves.are at c.zero_ranges.ensures ∙ sym (blank_zeroed n a.«data».now s.layout s.is))
+    record {
+      exit = blank_accepted s refl;
+      recording = rw s.leaves.are at c.zero_ranges.ensures ∙ sym (blank_zeroed n a.«data».now s.layout s.is);
+    }
 
 pub returns-in-Refused : goal.returns-in-Refused
 returns-in-Refused c =
     let a = c.args in
     let n = lent a.visited.now a.blocks.now a.links.now a.gaps.now (length a.scratch.now) 0 in
     let e = clear_refused {n = n} (c.lay_clear-laid.ensures 0) c.in-Refused.is in
-    let k = c.lay_clear-laid.auto.1 in (
-      refused_exit n {o = []} _ c.zero_tables.ensures refl (record { visited = k.0; blocks = k.1.0; links = k.1.1.0; gaps = k.1.1.1.0; out = refl }) ∙ sym (blank_refused n a.«data».now _ e),
-      sym (blank_untouched n a.«data».now _ e),
-    )
+    let k = c.lay_clear-laid.auto in record {
+      exit = refused_exit n {o = []} _ c.zero_tables.ensures refl (record { visited = k.visited; blocks = k.blocks; links = k.links; gaps = k.gaps; out = refl }) ∙ sym (blank_refused n a.«data».now _ e);
+      recording = sym (blank_untouched n a.«data».now _ e);
+    }

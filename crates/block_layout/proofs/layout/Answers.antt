@@ -18,6 +18,6 @@ pub returns-in-Refused : goal.returns-in-Refused
 returns-in-Refused c =
     let a = c.args in
     let n = lent a.visited.now a.blocks.now a.links.now a.gaps.now 0 0 in
-    let k = c.lay-laid.auto.1 in
-    refused_exit n {o = []} _ c.zero_tables.ensures refl (record { visited = k.0; blocks = k.1.0; links = k.1.1.0; gaps = k.1.1.1.0; out = refl })
+    let k = c.lay-laid.auto in
+    refused_exit n {o = []} _ c.zero_tables.ensures refl (record { visited = k.visited; blocks = k.blocks; links = k.links; gaps = k.gaps; out = refl })
     ∙ sym (layout_refused a.visited.now a.blocks.now a.links.now a.gaps.now a.«data».now _ (laid_refused {n = n} c.in-Refused.is (c.lay-laid.ensures 0 0)))

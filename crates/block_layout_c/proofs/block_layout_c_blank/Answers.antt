@@ -4,4 +4,8 @@ use Rattle.block_layout_c.proofs.Exits.{exit_told, answer_told}
 use Rattle.block_layout_c.proofs.block_layout_c_blank.Goals as goal
 
 pub returns : goal.returns
-returns c = (exit_told _ _ _ _ _ _ _ _ c.blank-r.ensures.0, (answer_told _ _ _ _ _ _ _ _ c.blank-r.ensures.0 _ c.store_answer.ensures, c.blank-r.ensures.1))
+returns c = record {
+  tables = exit_told _ _ _ _ _ _ _ _ c.blank-r.ensures.exit;
+  answer = answer_told _ _ _ _ _ _ _ _ c.blank-r.ensures.exit _ c.store_answer.ensures;
+  recording = c.blank-r.ensures.recording;
+}

@@ -4,4 +4,7 @@ use Rattle.block_layout_c.proofs.Exits.{exit_told, answer_told}
 use Rattle.block_layout_c.proofs.block_layout_c_tree.Goals as goal
 
 pub returns : goal.returns
-returns c = (exit_told _ _ _ _ _ _ _ _ c.to_tree-r.ensures.0, answer_told _ _ _ _ _ _ _ _ c.to_tree-r.ensures.0 _ c.store_answer.ensures)
+returns c = record {
+  tables = exit_told _ _ _ _ _ _ _ _ c.to_tree-r.ensures.exit;
+  answer = answer_told _ _ _ _ _ _ _ _ c.to_tree-r.ensures.exit _ c.store_answer.ensures;
+}

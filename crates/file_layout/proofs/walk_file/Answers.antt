@@ -8,5 +8,5 @@ walk-requires c = within_zeroed c.zero_tables.ensures
 
 pub returns : goal.returns
 returns c scratch out =
-    let k = c.walk.auto.1 in
-    walk_met c.zero_tables.ensures scratch out _ _ c.walk.ensures k.0 k.1.0 k.1.1.0
+    let k = c.walk.auto in
+    walk_met c.zero_tables.ensures scratch out _ _ c.walk.ensures k.visited k.blocks k.links

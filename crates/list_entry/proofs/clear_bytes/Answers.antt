@@ -24,21 +24,21 @@ returns-in-Tables c =
     let r = a.«data».now in
     let s = clear_tables {n = n} (c.lay_clear-laid.ensures (length a.out.now)) c.in-Tables.is in
     let w = from_zeros (length a.out.now) c.zero_bytes.ensures (rw s.leaves.are at c.put_clr-bytes.ensures) in
-    let k = c.lay_clear-laid.auto.1 in (
-      c.fit.ensures.0 n s.layout [] (clr_bytes (length r) (clear_ranges r s.layout)) s.fills (record { visited = k.0; blocks = k.1.0; links = k.1.1.0; gaps = k.1.1.1.0; out = omega (arith, c.put_clr-bytes.auto, c.zero_bytes.auto) }) w
-          ∙ sym (clear_list_made_of n r s.layout s.is),
-      fits_same (omega (arith, c.put_clr-bytes.auto, c.zero_bytes.auto)) c.fit.ensures.1,
-    )
+    let k = c.lay_clear-laid.auto in record {
+      exit = c.fit.ensures.exit n s.layout [] (clr_bytes (length r) (clear_ranges r s.layout)) s.fills (record { visited = k.visited; blocks = k.blocks; links = k.links; gaps = k.gaps; out = omega arith }) w
+          ∙ sym (clear_list_made_of n r s.layout s.is);
+      fits = fits_same (omega arith) c.fit.ensures.fits;
+    }
 
 pub returns-in-Refused : goal.returns-in-Refused
 returns-in-Refused c =
     let a = c.args in
     let n = lent a.visited.now a.blocks.now a.links.now a.gaps.now (length a.scratch.now) (length a.out.now) in
     let e = clear_refused {n = n} (c.lay_clear-laid.ensures (length a.out.now)) c.in-Refused.is in
-    let k = c.lay_clear-laid.auto.1 in (
-      c.refuse.ensures.0 n (record { visited = k.0; blocks = k.1.0; links = k.1.1.0; gaps = k.1.1.1.0; out = omega (arith, c.zero_bytes.auto) }) ∙ sym (clear_list_refused n a.«data».now _ e),
-      fits_same (omega (arith, c.zero_bytes.auto)) c.refuse.ensures.1,
-    )
+    let k = c.lay_clear-laid.auto in record {
+      exit = c.refuse.ensures.exit n (record { visited = k.visited; blocks = k.blocks; links = k.links; gaps = k.gaps; out = omega arith }) ∙ sym (clear_list_refused n a.«data».now _ e);
+      fits = fits_same (omega arith) c.refuse.ensures.fits;
+    }
 
 pub shape_of-out-in-Tables : goal.shape_of-out-in-Tables
-shape_of-out-in-Tables c = omega (arith, c.fit.auto, c.put_clr-bytes.auto, c.lay_clear-laid.auto, c.zero_bytes.auto)
+shape_of-out-in-Tables c = omega arith

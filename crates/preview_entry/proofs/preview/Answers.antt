@@ -5,4 +5,7 @@ use Rattle.answers.proofs.Exits.{scratch_zero}
 use Rattle.preview_entry.proofs.preview.Goals as goal
 
 pub returns : goal.returns
-returns c = (scratch_zero _ _ _ _ _ _ _ (length c.args.scratch.now) (search rules) c.preview_counts-answer.auto.scratch c.preview_counts-answer.ensures.0, c.preview_counts-answer.ensures.1)
+returns c = record {
+  exit = scratch_zero _ _ _ _ _ _ _ (length c.args.scratch.now) (search rules) c.preview_counts-answer.auto.scratch c.preview_counts-answer.ensures.exit;
+  fits = c.preview_counts-answer.ensures.fits;
+}

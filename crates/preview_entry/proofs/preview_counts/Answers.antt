@@ -21,11 +21,11 @@ returns-then-lent-needed c =
     let n = lent a.visited.now a.blocks.now a.links.now a.gaps.now (length a.scratch.now) (length a.counts.now) in
     let r = a.«data».now in
     let s = clear_tables {n = n} (c.lay_clear-laid.ensures (length a.counts.now)) c.in-Tables.is in
-    let k = c.lay_clear-laid.auto.1 in (
-      refused_exit n {o = a.counts.now} _ c.zero_tables.ensures c.zero_words.ensures (record { visited = k.0; blocks = k.1.0; links = k.1.1.0; gaps = k.1.1.1.0; out = refl })
-          ∙ sym (counts_refused n r s.layout s.is (omega (arith, c.zero_words.auto)) (counts_needed s c.count_ranges-needed.ensures) c.if-lent-needed.true),
-      record { is = tt },
-    )
+    let k = c.lay_clear-laid.auto in record {
+      exit = refused_exit n {o = a.counts.now} _ c.zero_tables.ensures c.zero_words.ensures (record { visited = k.visited; blocks = k.blocks; links = k.links; gaps = k.gaps; out = refl })
+          ∙ sym (counts_refused n r s.layout s.is (omega (arith, c.zero_words.auto)) (counts_needed s c.count_ranges-needed.ensures) c.if-lent-needed.true);
+      fits = record { is = tt };
+    }
 
 pub put_counts-total-requires : goal.put_counts-total-requires
 put_counts-total-requires c =
@@ -38,20 +38,21 @@ pub returns-else-lent-needed : goal.returns-else-lent-needed
 returns-else-lent-needed c =
     let a = c.args in
     let n = lent a.visited.now a.blocks.now a.links.now a.gaps.now (length a.scratch.now) (length a.counts.now) in
-    let s = clear_tables {n = n} (c.lay_clear-laid.ensures (length a.counts.now)) c.in-Tables.is in (
-      counts_accepted s (counts_needed s c.count_ranges-needed.ensures) (omega (arith, c.if-lent-needed.false, c.zero_words.auto)) (rw (c.zero_words.ensures, s.leaves.are) at c.put_counts-total.ensures),
-      record { is = omega (arith, c.if-lent-needed.false, c.zero_words.auto) },
-    )
+    let s = clear_tables {n = n} (c.lay_clear-laid.ensures (length a.counts.now)) c.in-Tables.is in
+    record {
+      exit = counts_accepted s (counts_needed s c.count_ranges-needed.ensures) (omega (arith, c.if-lent-needed.false, c.zero_words.auto)) (rw (c.zero_words.ensures, s.leaves.are) at c.put_counts-total.ensures);
+      fits = record { is = omega arith };
+    }
 
 pub returns-in-Refused : goal.returns-in-Refused
 returns-in-Refused c =
     let a = c.args in
     let n = lent a.visited.now a.blocks.now a.links.now a.gaps.now (length a.scratch.now) (length a.counts.now) in
     let e = clear_refused {n = n} (c.lay_clear-laid.ensures (length a.counts.now)) c.in-Refused.is in
-    let k = c.lay_clear-laid.auto.1 in (
-      refused_exit n {o = a.counts.now} _ c.zero_tables-in-Refused.ensures c.zero_words.ensures (record { visited = k.0; blocks = k.1.0; links = k.1.1.0; gaps = k.1.1.1.0; out = refl }) ∙ sym (preview_refused n a.«data».now _ e),
-      record { is = tt },
-    )
+    let k = c.lay_clear-laid.auto in record {
+      exit = refused_exit n {o = a.counts.now} _ c.zero_tables-in-Refused.ensures c.zero_words.ensures (record { visited = k.visited; blocks = k.blocks; links = k.links; gaps = k.gaps; out = refl }) ∙ sym (preview_refused n a.«data».now _ e);
+      fits = record { is = tt };
+    }
 
 pub shape_of-counts-then-lent-needed : goal.shape_of-counts-then-lent-needed
-shape_of-counts-then-lent-needed c = omega (arith, c.zero_tables.auto, c.lay_clear-laid.auto, c.zero_words.auto)
+shape_of-counts-then-lent-needed c = omega arith
