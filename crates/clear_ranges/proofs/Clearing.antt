@@ -7,7 +7,7 @@ use native.Mathlib.Omega.{arith}
 use lib.Dec.{ltb}
 use lib.ListN.{length}
 use borrow.Author.Tests.{le-leb, lt-leb, le-ltb, ltb-true, ltb-false}
-use Rattle.mdf4.specs.Bytes.{Range, within, inside, count, concat_map}
+use Rattle.mdf4.specs.Bytes.{Range, within, inside, concat_map}
 use Rattle.mdf4.specs.Act.{ok, check, State}
 use Rattle.mdf4.specs.Reads.{spared_ranges}
 use Rattle.mdf4.specs.Layout.{sort, extent, gap, compute_gaps, Layout, layout_of}

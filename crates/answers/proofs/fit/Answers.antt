@@ -2,7 +2,6 @@
 use mathlib.Core.Path.{sym, ap, ◌∙◌}
 use Prim.Native.Nat.{◌+◌, ◌^◌, ◌<◌}
 use native.Mathlib.Omega.{arith}
-use borrow.Author.Rules.{rules}
 use Rattle.mdf4.specs.Answers.{exit}
 use Rattle.answers.proofs.Exits.{fit_refused, fit_accepted}
 use Rattle.answers.proofs.fit.Goals as goal

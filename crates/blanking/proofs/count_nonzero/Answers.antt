@@ -1,11 +1,8 @@
 -- `blanking::count_nonzero` meets its contract. The invariant: the bytes before i are counted.
 use mathlib.Core.Path.{◌≡◌}
-use Prim.Native.Nat.{◌-◌, ◌≤◌}
 use native.Mathlib.Omega.{arith}
-use Rattle.mdf4.specs.Blank.{nonzero}
 use Rattle.mdf4.proofs.Zeroed.{nonzero_most}
 use Rattle.blanking.proofs.Counting.{count_start, count_zero, count_more}
-use borrow.Author.Rules.{rules}
 use Rattle.blanking.proofs.count_nonzero.Goals as goal
 
 pub loop-i-init : goal.loop-i-init

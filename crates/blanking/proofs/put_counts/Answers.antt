@@ -1,12 +1,10 @@
 -- `blanking::put_counts` meets its contract. The invariant: the ranges found are counted.
-use mathlib.Core.Path.{◌≡◌, refl, ◌∙◌}
+use mathlib.Core.Path.{refl, ◌∙◌}
 use native.Mathlib.Omega.{arith}
-use lib.ListN.{length, length-set}
-use Rattle.clear_ranges.specs.Sweep.{left_from}
-use Rattle.clear_ranges.proofs.Sweeping.{Going, going, among, turn, done, fewer}
+use lib.ListN.{length-set}
+use Rattle.clear_ranges.proofs.Sweeping.{going, among, turn, done, fewer}
 use Rattle.blanking.proofs.Zeroing.{next_inner}
-use Rattle.blanking.proofs.Counting.{Counting, counting, total_most, count_room, count_turn}
-use borrow.Author.Rules.{rules}
+use Rattle.blanking.proofs.Counting.{counting, total_most, count_room, count_turn}
 use Rattle.blanking.proofs.put_counts.Goals as goal
 
 pub loop-found-init : goal.loop-found-init

@@ -1,12 +1,9 @@
 -- `blanking::put_counts` meets its contract. The invariant: the ranges found are counted.
-use mathlib.Core.Path.{◌≡◌, refl, ◌∙◌}
-use native.Mathlib.Omega.{arith}
-use lib.ListN.{length, length-set}
+use mathlib.Core.Path.{◌≡◌}
+use lib.ListN.{length}
 use Rattle.clear_ranges.specs.Sweep.{left_from}
-use Rattle.clear_ranges.proofs.Sweeping.{Going, going, among, turn, done, fewer}
-use Rattle.blanking.proofs.Zeroing.{next_inner}
-use Rattle.blanking.proofs.Counting.{Counting, counting, total_most, count_room, count_turn}
-use borrow.Author.Rules.{rules}
+use Rattle.clear_ranges.proofs.Sweeping.{Going}
+use Rattle.blanking.proofs.Counting.{Counting}
 use Rattle.blanking.proofs.put_counts.Given as goal
 
 abbrev pub invariant-loop-found : goal.invariant-loop-found

@@ -1,6 +1,5 @@
 -- `blanking::zero_range` meets its contract.
 use Rattle.blanking.proofs.Zeroing.{zero_part}
-use borrow.Author.Rules.{rules}
 use Rattle.blanking.proofs.zero_range.Goals as goal
 
 pub returns : goal.returns

@@ -1,13 +1,9 @@
 -- `blanking::zero_ranges` meets its contract. The invariant: the ranges found are zero, and no other byte is changed.
-use mathlib.Core.Path.{◌≡◌, refl, sym}
-use native.Mathlib.Omega.{arith}
+use mathlib.Core.Path.{◌≡◌}
 use lib.ListN.{length}
 use Rattle.mdf4.specs.Blank.{zeroed}
-use Rattle.mdf4.proofs.Zeroed.{zeroed_none}
 use Rattle.clear_ranges.specs.Sweep.{left_from}
-use Rattle.clear_ranges.proofs.Sweeping.{Going, going, turn, done, fewer}
-use Rattle.blanking.proofs.Zeroing.{next_inner, zero_turn}
-use borrow.Author.Rules.{rules}
+use Rattle.clear_ranges.proofs.Sweeping.{Going}
 use Rattle.blanking.proofs.zero_ranges.Given as goal
 
 abbrev pub invariant-loop-found : goal.invariant-loop-found

@@ -1,5 +1,4 @@
 -- `lay_clear` meets its contract: the layout is refused, the scratch table is too short, or both stand. Assumes nothing.
-use borrow.Author.Rules.{rules}
 use lib.ListN.{length}
 use Rattle.file_layout.specs.Tables.{lent}
 use Rattle.file_layout.proofs.Standing.{laid_tables, finalized_laid, finalized_refused, printable, shows, inv, is_layout}

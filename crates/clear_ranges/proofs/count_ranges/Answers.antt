@@ -1,10 +1,7 @@
 -- `clear_ranges::count_ranges` meets its contract. The invariant: the ranges found are counted.
-use mathlib.Core.Path.{◌≡◌, refl}
+use mathlib.Core.Path.{refl}
 use native.Mathlib.Omega.{arith}
-use lib.ListN.{length}
-use Rattle.clear_ranges.specs.Sweep.{left_from}
-use Rattle.clear_ranges.proofs.Sweeping.{Going, going, turn, done, fewer, count_most, count_turn}
-use borrow.Author.Rules.{rules}
+use Rattle.clear_ranges.proofs.Sweeping.{going, turn, done, fewer, count_most, count_turn}
 use Rattle.clear_ranges.proofs.count_ranges.Goals as goal
 
 pub loop-found-init : goal.loop-found-init

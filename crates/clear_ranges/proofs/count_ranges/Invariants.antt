@@ -1,10 +1,8 @@
 -- `clear_ranges::count_ranges` meets its contract. The invariant: the ranges found are counted.
-use mathlib.Core.Path.{◌≡◌, refl}
-use native.Mathlib.Omega.{arith}
+use mathlib.Core.Path.{◌≡◌}
 use lib.ListN.{length}
 use Rattle.clear_ranges.specs.Sweep.{left_from}
-use Rattle.clear_ranges.proofs.Sweeping.{Going, going, turn, done, fewer, count_most, count_turn}
-use borrow.Author.Rules.{rules}
+use Rattle.clear_ranges.proofs.Sweeping.{Going}
 use Rattle.clear_ranges.proofs.count_ranges.Given as goal
 
 abbrev pub invariant-loop-found : goal.invariant-loop-found

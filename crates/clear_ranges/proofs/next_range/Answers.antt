@@ -1,10 +1,7 @@
 -- `clear_ranges::next_range` meets its contract. The invariant: what is left at row i is what was left at the first.
-use mathlib.Core.Path.{◌≡◌, refl, ◌∙◌}
-use Prim.Native.Nat.{◌-◌}
+use mathlib.Core.Path.{refl, ◌∙◌}
 use native.Mathlib.Omega.{arith}
-use Rattle.clear_ranges.specs.Sweep.{left_from}
 use Rattle.clear_ranges.proofs.Sweeping.{left_found, left_passed, left_none, left_end}
-use borrow.Author.Rules.{rules}
 use Rattle.clear_ranges.proofs.next_range.Goals as goal
 
 pub loop-i-init : goal.loop-i-init

@@ -1,7 +1,6 @@
 -- `clear_ranges::sort_spared` meets its contract.
 use native.Mathlib.Omega.{arith}
 use Rattle.clear_ranges.proofs.Clearing.{refused_at, sorted_at}
-use borrow.Author.Rules.{rules}
 use Rattle.clear_ranges.proofs.sort_spared.Goals as goal
 
 pub put_blocks-taken-requires : goal.put_blocks-taken-requires

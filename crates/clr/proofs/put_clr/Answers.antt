@@ -1,7 +1,6 @@
 -- `clr::put_clr` meets its contract.
 use Rattle.fmt.proofs.Text.{then}
 use Rattle.clr.proofs.Writing.{clr_is}
-use borrow.Author.Rules.{rules}
 use Rattle.clr.proofs.put_clr.Goals as goal
 
 pub returns : goal.returns

@@ -1,10 +1,7 @@
 -- `clr::put_le` meets its contract. The invariant: the bytes written and those of what is left are all bytes.
-use Prim.Native.Nat.{◌-◌, ◌≤◌}
-use mathlib.Core.Path.{◌≡◌, refl}
+use mathlib.Core.Path.{refl}
 use native.Mathlib.Omega.{arith}
-use lib.ListN.{length}
-use Rattle.clr.proofs.Writing.{Lesser, le_start, le_turn, le_last}
-use borrow.Author.Rules.{rules}
+use Rattle.clr.proofs.Writing.{le_start, le_turn, le_last}
 use Rattle.clr.proofs.put_le.Goals as goal
 
 pub loop-i-init : goal.loop-i-init

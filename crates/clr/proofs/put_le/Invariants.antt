@@ -1,10 +1,8 @@
 -- `clr::put_le` meets its contract. The invariant: the bytes written and those of what is left are all bytes.
 use Prim.Native.Nat.{◌-◌, ◌≤◌}
-use mathlib.Core.Path.{◌≡◌, refl}
-use native.Mathlib.Omega.{arith}
+use mathlib.Core.Path.{◌≡◌}
 use lib.ListN.{length}
-use Rattle.clr.proofs.Writing.{Lesser, le_start, le_turn, le_last}
-use borrow.Author.Rules.{rules}
+use Rattle.clr.proofs.Writing.{Lesser}
 use Rattle.clr.proofs.put_le.Given as goal
 
 abbrev pub invariant-loop-i : goal.invariant-loop-i

@@ -1,15 +1,11 @@
 -- `clr::put_ranges` meets its contract. The invariant: the ranges found are written.
-use mathlib.Core.Path.{◌≡◌, refl}
-use native.Mathlib.Omega.{arith}
+use mathlib.Core.Path.{◌≡◌}
 use lib.ListN.{length}
 use Rattle.fmt.specs.Text.{Wrote}
-use Rattle.fmt.proofs.Text.{none, then}
 use Rattle.mdf4.specs.Bytes.{concat_map}
 use Rattle.mdf4.specs.Clear.{range_bytes}
 use Rattle.clear_ranges.specs.Sweep.{left_from}
-use Rattle.clear_ranges.proofs.Sweeping.{Going, going, turn, done, fewer}
-use Rattle.clr.proofs.Writing.{write_none, write_turn}
-use borrow.Author.Rules.{rules}
+use Rattle.clear_ranges.proofs.Sweeping.{Going}
 use Rattle.clr.proofs.put_ranges.Given as goal
 
 abbrev pub invariant-loop-found : goal.invariant-loop-found

@@ -1,6 +1,5 @@
 -- `lay` meets its contract: the walk refuses, or the gaps are laid. Assumes nothing.
 use mathlib.Core.Path.{refl}
-use borrow.Author.Rules.{rules}
 use Rattle.mdf4.specs.Act.{ok}
 use Rattle.file_layout.proofs.Laying.{walked_on, walk_refused}
 use Rattle.file_layout.proofs.lay.Goals as goal

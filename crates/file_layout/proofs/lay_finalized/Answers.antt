@@ -1,6 +1,5 @@
 -- `lay_finalized` meets its contract: the walk refuses, a flag is set, or the gaps are laid. Assumes nothing.
 use mathlib.Core.Path.{refl, sym, ap, ◌∙◌}
-use borrow.Author.Rules.{rules}
 use Rattle.finalized.specs.Flags.{told}
 use Rattle.file_layout.proofs.Laying.{walked_on, walk_refused, identified, asked_refused, granted}
 use Rattle.file_layout.proofs.lay_finalized.Goals as goal

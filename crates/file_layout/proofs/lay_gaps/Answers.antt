@@ -1,6 +1,5 @@
 -- `lay_gaps` meets its contract: the gaps do not fit, or the layout stands in the tables. Assumes nothing.
 use native.Mathlib.Omega.{arith}
-use borrow.Author.Rules.{rules}
 use Rattle.file_layout.proofs.Laying.{gaps_refused, stands}
 use Rattle.file_layout.proofs.lay_gaps.Goals as goal
 

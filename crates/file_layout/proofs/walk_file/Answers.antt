@@ -1,5 +1,4 @@
 -- `walk_file` meets its contract: zeroed tables, then the walk. Assumes nothing.
-use borrow.Author.Rules.{rules}
 use Rattle.file_layout.proofs.Laying.{within_zeroed, walk_met}
 use Rattle.file_layout.proofs.walk_file.Goals as goal
 

@@ -1,6 +1,5 @@
 -- `check_finalized` meets its contract.
 use mathlib.Core.Path.{sym, ◌∙◌}
-use borrow.Author.Rules.{rules}
 use Rattle.finalized.proofs.Words.{none_set, one_set}
 use Rattle.finalized.proofs.check_finalized.Goals as goal
 

@@ -4,7 +4,6 @@ use Prim.Native.Nat.{ℕ, ◌%◌}
 use native.Mathlib.Omega.{arith}
 use lib.Dec.{eqb}
 use Rattle.scratch_rows.proofs.Filling.{block_short, block_marked}
-use borrow.Author.Rules.{rules}
 use Rattle.scratch_rows.proofs.leads_to_block.Goals as goal
 
 pub returns-then-file-target-lt-LEN : goal.returns-then-file-target-lt-LEN

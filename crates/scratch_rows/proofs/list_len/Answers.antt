@@ -2,7 +2,6 @@
 use mathlib.Core.Path.{◌∙◌}
 use native.Mathlib.Omega.{arith}
 use Rattle.scratch_rows.proofs.Lengths.{list_least, list_one, list_many}
-use borrow.Author.Rules.{rules}
 use Rattle.scratch_rows.proofs.list_len.Goals as goal
 
 pub read_u64-links_nr-requires : goal.read_u64-links_nr-requires

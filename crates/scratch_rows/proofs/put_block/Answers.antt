@@ -3,7 +3,6 @@ use native.Mathlib.Omega.{arith}
 use Rattle.scratch_rows.proofs.Lengths.{len_cn}
 use Rattle.tables.proofs.Gapping.{pushed_then}
 use Rattle.scratch_rows.proofs.NameCovers.{cover_channel, cover_other}
-use borrow.Author.Rules.{rules}
 use Rattle.scratch_rows.proofs.put_block.Goals as goal
 
 pub read_u64-requires : goal.read_u64-requires

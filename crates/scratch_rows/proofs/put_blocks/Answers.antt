@@ -1,14 +1,11 @@
 -- `scratch_rows::put_blocks` meets its contract. The invariant: the ranges of the rows before i are pushed.
-use Prim.Native.Nat.{◌*◌, ◌-◌, ◌≤◌}
-use mathlib.Core.Path.{◌≡◌, refl}
+use mathlib.Core.Path.{refl}
 use native.Mathlib.Omega.{arith}
-use lib.ListN.{length}
 use Rattle.mdf4.specs.Bytes.{concat_map}
 use Rattle.tables.specs.Gaps.{Pushed}
 use Rattle.tables.specs.Rows.{held_rows}
 use Rattle.scratch_rows.specs.Covers.{row_cover}
 use Rattle.scratch_rows.proofs.Filling.{rows_none, row_turn, row_whole, at_end}
-use borrow.Author.Rules.{rules}
 use Rattle.scratch_rows.proofs.put_blocks.Goals as goal
 
 pub loop-i-init : goal.loop-i-init

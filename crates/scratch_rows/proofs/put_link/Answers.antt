@@ -2,7 +2,6 @@
 use mathlib.Core.Path.{sym, ◌∙◌}
 use native.Mathlib.Omega.{arith}
 use Rattle.scratch_rows.proofs.Filling.{pushed_no, target_null, target_far, target_four, target_block, block_whole}
-use borrow.Author.Rules.{rules}
 use Rattle.scratch_rows.proofs.put_link.Goals as goal
 
 pub returns-then-target-eq0 : goal.returns-then-target-eq0

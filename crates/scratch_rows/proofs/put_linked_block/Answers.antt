@@ -1,7 +1,6 @@
 -- `scratch_rows::put_linked_block` meets its contract.
 use native.Mathlib.Omega.{arith}
 use Rattle.scratch_rows.proofs.Filling.{block_pushed}
-use borrow.Author.Rules.{rules}
 use Rattle.scratch_rows.proofs.put_linked_block.Goals as goal
 
 pub returns-then-len-target : goal.returns-then-len-target

@@ -1,14 +1,11 @@
 -- `scratch_rows::put_links` meets its contract. The invariant: the ranges of the links before i are pushed.
-use Prim.Native.Nat.{◌+◌, ◌-◌, ◌*◌, ◌≤◌}
-use mathlib.Core.Path.{◌≡◌, refl}
+use mathlib.Core.Path.{refl}
 use native.Mathlib.Omega.{arith}
-use lib.ListN.{length}
 use Rattle.mdf4.specs.Bytes.{concat_map}
 use Rattle.tables.specs.Gaps.{Pushed}
 use Rattle.tables.specs.Rows.{held_links}
 use Rattle.scratch_rows.specs.Covers.{link_cover}
 use Rattle.scratch_rows.proofs.Filling.{links_none, link_turn, at_end}
-use borrow.Author.Rules.{rules}
 use Rattle.scratch_rows.proofs.put_links.Goals as goal
 
 pub loop-i-init : goal.loop-i-init

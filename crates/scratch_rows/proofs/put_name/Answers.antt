@@ -3,7 +3,6 @@ use native.Mathlib.Omega.{arith}
 use mathlib.Core.Path.{◌∙◌, sym}
 use Rattle.scratch_rows.proofs.Filling.{pushed_no}
 use Rattle.scratch_rows.proofs.NameCovers.{name_null, name_far, name_other, name_fits, name_cut}
-use borrow.Author.Rules.{rules}
 use Rattle.scratch_rows.proofs.put_name.Goals as goal
 
 pub returns-then-target-eq0 : goal.returns-then-target-eq0

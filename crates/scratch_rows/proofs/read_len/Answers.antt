@@ -2,7 +2,6 @@
 use native.Mathlib.Omega.{arith}
 use mathlib.Core.Path.{sym}
 use Rattle.scratch_rows.proofs.Lengths.{len_id, len_hd, len_dg, len_cg, len_cn, len_si, len_tx, len_md, len_dl, len_others}
-use borrow.Author.Rules.{rules}
 use Rattle.scratch_rows.proofs.read_len.Goals as goal
 
 pub returns-then-kind-eq-ID : goal.returns-then-kind-eq-ID
