@@ -1,7 +1,8 @@
 // The CLR bytes of the clear list of the recording on standard input, as `listing` prints its listing.
 #![tactic(auto)]
-use libc::STDIN_FILENO;
 
-fn main() {
-    console::clear(STDIN_FILENO);
+use std::io;
+
+fn main(rt: HostRuntime) -> io::Result<()> {
+    console::clear(&rt, rt.reader())
 }

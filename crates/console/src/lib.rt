@@ -1,37 +1,43 @@
 // What the programs do: each reads a recording of 65,536 bytes at most and prints what an entry makes of it, a refusal's four
-// numbers, or that the recording is too long. Each table and the output has 65,536 bytes. The recording is read from a file
-// descriptor, so that the program `programs` runs the same code on the files beside it.
+// numbers, or that the recording is too long. Each table and the output has 65,536 bytes. The recording comes from any reader, so
+// that the program `programs` runs the same code on the files beside it.
 #![tactic(auto)]
+
 use block_layout::Answer;
 use blocks::error::MdfError;
-use libc::STDOUT_FILENO;
+use std::alloc::Global;
+use std::io;
+use std::io::Read;
 
-// The first bytes of an output; an entry answers no more than it was lent.
-fn say_output(out: &[u8], bytes: usize) {
-    if bytes <= out.len() {
-        io::write_all(STDOUT_FILENO, &out[..bytes]);
-    }
+// Bytes of the longest recording.
+const LONGEST: usize = 65536;
+
+// The recording, or of a longer one its first LONGEST + 1 bytes.
+fn read_recording<R: Read + Drop>(alloc: Global, input: R) -> io::Result<Vec<u8>> {
+    let mut data = Vec::new(alloc);
+    input.take(LONGEST as u64 + 1).read_to_end(&mut data)?;
+    Ok(data)
 }
 
-fn say_too_long() {
-    io::write_all(STDOUT_FILENO, b"too long\n");
+// The first bytes of an output; an entry answers no more than it was lent.
+fn say_output(rt: &impl Print, out: &[u8], bytes: usize) -> io::Result<()> {
+    if bytes <= out.len() {
+        rt.write_all(&out[..bytes])?;
+    }
+    Ok(())
+}
+
+fn say_too_long(rt: &impl Print) -> io::Result<()> {
+    println!(rt; "too long")
 }
 
 // Document 01's four numbers of a refusal.
-fn say_refused(e: MdfError) {
+fn say_refused(rt: &impl Print, e: MdfError) -> io::Result<()> {
     let r = e.numbers();
-    io::write_all(STDOUT_FILENO, b"refused ");
-    io::print_decimal(STDOUT_FILENO, r.number);
-    io::write_all(STDOUT_FILENO, b" ");
-    io::print_decimal(STDOUT_FILENO, r.place);
-    io::write_all(STDOUT_FILENO, b" ");
-    io::print_decimal(STDOUT_FILENO, r.a);
-    io::write_all(STDOUT_FILENO, b" ");
-    io::print_decimal(STDOUT_FILENO, r.b);
-    io::write_all(STDOUT_FILENO, b"\n");
+    println!(rt; "refused {} {} {} {}", r.number, r.place, r.a, r.b)
 }
 
-fn say(answer: Answer, out: &[u8]) {
+fn say(rt: &impl Print, answer: Answer, out: &[u8]) -> io::Result<()> {
     match answer {
         Answer::Accepted {
             visited: _,
@@ -40,18 +46,16 @@ fn say(answer: Answer, out: &[u8]) {
             gaps: _,
             bytes,
             total: _,
-        } => say_output(out, bytes),
-        Answer::Refused(e) => say_refused(e),
+        } => say_output(rt, out, bytes),
+        Answer::Refused(e) => say_refused(rt, e),
     }
 }
 
 // Document 01's listing program.
-pub fn listing(fd: i32) {
-    let mut data = [0u8; 65537];
-    let n = io::read_full(fd, &mut data);
-    if 65536 < n {
-        say_too_long();
-        return;
+pub fn listing<R: Read + Drop>(rt: &(impl Print + AllocGlobal), input: R) -> io::Result<()> {
+    let data = read_recording(rt.alloc(), input)?;
+    if LONGEST < data.len() {
+        return say_too_long(rt);
     }
     let mut visited = [0u64; 8192];
     let mut blocks = [0u64; 8192];
@@ -59,23 +63,21 @@ pub fn listing(fd: i32) {
     let mut gaps = [0u64; 8192];
     let mut out = [0u8; 65536];
     let answer = block_layout::to_text(
-        &data[..n],
+        &data,
         &mut visited,
         &mut blocks,
         &mut links,
         &mut gaps,
         &mut out,
     );
-    say(answer, &out);
+    say(rt, answer, &out)
 }
 
 // The same of the tree.
-pub fn tree(fd: i32) {
-    let mut data = [0u8; 65537];
-    let n = io::read_full(fd, &mut data);
-    if 65536 < n {
-        say_too_long();
-        return;
+pub fn tree<R: Read + Drop>(rt: &(impl Print + AllocGlobal), input: R) -> io::Result<()> {
+    let data = read_recording(rt.alloc(), input)?;
+    if LONGEST < data.len() {
+        return say_too_long(rt);
     }
     let mut visited = [0u64; 8192];
     let mut blocks = [0u64; 8192];
@@ -83,23 +85,21 @@ pub fn tree(fd: i32) {
     let mut gaps = [0u64; 8192];
     let mut out = [0u8; 65536];
     let answer = block_layout::to_tree(
-        &data[..n],
+        &data,
         &mut visited,
         &mut blocks,
         &mut links,
         &mut gaps,
         &mut out,
     );
-    say(answer, &out);
+    say(rt, answer, &out)
 }
 
 // The same of the clear list, whose CLR bytes are printed.
-pub fn clear(fd: i32) {
-    let mut data = [0u8; 65537];
-    let n = io::read_full(fd, &mut data);
-    if 65536 < n {
-        say_too_long();
-        return;
+pub fn clear<R: Read + Drop>(rt: &(impl Print + AllocGlobal), input: R) -> io::Result<()> {
+    let data = read_recording(rt.alloc(), input)?;
+    if LONGEST < data.len() {
+        return say_too_long(rt);
     }
     let mut visited = [0u64; 8192];
     let mut blocks = [0u64; 8192];
@@ -108,7 +108,7 @@ pub fn clear(fd: i32) {
     let mut scratch = [0u64; 8192];
     let mut out = [0u8; 65536];
     let answer = block_layout::clear_list(
-        &data[..n],
+        &data,
         &mut visited,
         &mut blocks,
         &mut links,
@@ -116,5 +116,5 @@ pub fn clear(fd: i32) {
         &mut scratch,
         &mut out,
     );
-    say(answer, &out);
+    say(rt, answer, &out)
 }

@@ -1,13 +1,18 @@
 // Replays recorded answers of Rust's own texts and numbers: standard input is what tools/leaves.rs wrote. Prints the place of each
 // record that is answered otherwise, and how many there are.
 #![tactic(auto)]
-ghost use Rattle.std.specs.Prelude.{◌+◌, ◌≤◌, length};
+
+ghost use Rattle.std.specs.Prelude.{◌+◌, ◌≤◌, length, IfOk};
 ghost use Rattle.leaves.specs.Onward.{Onward};
 
 use blocks::data_type::put_data_type;
 use blocks::identification_block::{IdentificationBlock, VersionRead};
 use little_endian::{read_u16, read_u32, read_u64};
-use libc::STDOUT_FILENO;
+use std::io;
+use std::io::Read;
+
+// Bytes of records that are read.
+const RECORDS: u64 = 262144;
 
 fn put_bool(out: &mut [u8], b: bool) -> usize {
     if b {
@@ -174,44 +179,38 @@ fn replay_at(b: &[u8], at: usize) -> Replayed
     Replayed::Record { next, same }
 }
 
-fn say(place: usize) {
-    io::write_all(STDOUT_FILENO, b"differs: the record at ");
-    io::print_decimal(STDOUT_FILENO, place as u64);
-    io::write_all(STDOUT_FILENO, b"\n");
+fn say(rt: &impl Print, place: usize) -> io::Result<()> {
+    println!(rt; "differs: the record at {place}")
 }
 
 // How many records at a place differ, 0 or 1.
-fn note(place: usize, same: bool) -> usize
-    ensures { result ≤ 1 }
+fn note(rt: &impl Print, place: usize, same: bool) -> io::Result<usize>
+    ensures { IfOk result (λ n. n ≤ 1) }
 {
     if same {
-        return 0;
+        return Ok(0);
     }
-    say(place);
-    1
+    say(rt, place)?;
+    Ok(1)
 }
 
-fn replay(b: &[u8]) {
+fn replay(rt: &impl Print, b: &[u8]) -> io::Result<()> {
     let mut at = 0;
     let mut read: usize = 0;
     let mut differ: usize = 0;
     while at < b.len() {
         let Replayed::Record { next, same } = replay_at(b, at) else {
-            say(at);
-            return;
+            return say(rt, at);
         };
-        differ += note(at, same);
+        differ += note(rt, at, same)?;
         read += 1;
         at = next;
     }
-    io::print_decimal(STDOUT_FILENO, read as u64);
-    io::write_all(STDOUT_FILENO, b" records, ");
-    io::print_decimal(STDOUT_FILENO, differ as u64);
-    io::write_all(STDOUT_FILENO, b" differ\n");
+    println!(rt; "{read} records, {differ} differ")
 }
 
-fn main() {
-    let mut buf = [0u8; 262144];
-    let n = io::read_full(0, &mut buf);
-    replay(&buf[..n]);
+fn main(rt: HostRuntime) -> io::Result<()> {
+    let mut records = Vec::new(rt.alloc());
+    rt.reader().take(RECORDS).read_to_end(&mut records)?;
+    replay(&rt, &records)
 }

@@ -1,7 +1,10 @@
 // Runs what the programs `listing`, `tree` and `clear` do on each recording that its arguments name: refused, unfinalised and too long
 // ones, and ones at the limits. tools/programs.py wrote the recordings and what is to be printed.
 #![tactic(auto)]
-use libc::STDOUT_FILENO;
+
+use std::fs::File;
+use std::rt::Files;
+use std::{env, io};
 
 const LISTING: u8 = 0;
 
@@ -10,38 +13,33 @@ const TREE: u8 = 1;
 const CLEAR: u8 = 2;
 
 // What a program prints of the file named.
-fn run(path: &[u8], program: u8) {
-    let fd = os::open_read(path);
-    if fd < 0 {
-        io::write_all(STDOUT_FILENO, b"not opened\n");
-        return;
-    }
+fn run(rt: &(impl Files + Print + AllocGlobal), path: &str, program: u8) -> io::Result<()> {
+    let Ok(file) = File::open(rt, path) else {
+        return println!(rt; "not opened");
+    };
     if program == LISTING {
-        console::listing(fd);
+        return console::listing(rt, file);
     }
     if program == TREE {
-        console::tree(fd);
+        return console::tree(rt, file);
     }
     if program == CLEAR {
-        console::clear(fd);
+        return console::clear(rt, file);
     }
-    libc::close(fd);
+    Ok(())
 }
 
-// The three programs on the file that argument i names.
-fn programs(i: usize) {
-    let mut path = io::buffer();
-    let n = os::arg(i, &mut path);
-    io::write_all(STDOUT_FILENO, &path[..n]);
-    io::write_all(STDOUT_FILENO, b"\n");
-    run(&path[..n], LISTING);
-    run(&path[..n], TREE);
-    run(&path[..n], CLEAR);
+// The three programs on the file that an argument names.
+fn programs(rt: &(impl Files + Print + AllocGlobal), path: &str) -> io::Result<()> {
+    rt.println(path)?;
+    run(rt, path, LISTING)?;
+    run(rt, path, TREE)?;
+    run(rt, path, CLEAR)
 }
 
-fn main() {
-    let count = os::arg_count();
-    for i in 1..count {
-        programs(i);
+fn main(rt: HostRuntime) -> io::Result<()> {
+    for path in env::args(&rt)?.skip(1) {
+        programs(&rt, path.as_str())?;
     }
+    Ok(())
 }

@@ -3,7 +3,8 @@
 // All of it is done again with the recording that the blanker leaves, but for unfinalised ones. Before each call all lent memory is filled
 // with ones. Prints the place of each recording that is answered otherwise, and how many there are.
 #![tactic(auto)]
-ghost use Rattle.std.specs.Prelude.{◌≤◌, length};
+
+ghost use Rattle.std.specs.Prelude.{◌≤◌, length, IfOk};
 ghost use Rattle.replay.specs.Parts.{Ordered};
 
 mod calls;
@@ -13,11 +14,15 @@ mod recording;
 
 use calls::{accepts, refuses, refuses_unfinalized};
 use clear::{COPY, zero_clear};
-use libc::STDOUT_FILENO;
 use recording::{Ends, Want, ends_of, recorded, size_at, unfinalized};
+use std::alloc::Global;
+use std::io;
+use std::io::Read;
 
-// Bytes of a recording's head.
+// Bytes of a recording's head, and of the parts of the longest recording.
 const HEAD: usize = 80;
+
+const PARTS: usize = 131072;
 
 // All calls for what the blanker leaves of the recording, made in this copy.
 fn copy_calls(copy: &mut [u8], data: &[u8], b: &[u8], ends: Ends, places: Want) -> bool
@@ -81,62 +86,58 @@ fn replayed(head: &[u8], b: &[u8]) -> bool
     calls_for(b, ends, recorded(head), unfinalized(head))
 }
 
+// Reads this many bytes; fewer where the input ends before.
+fn read_bytes<R: Read>(alloc: Global, input: &mut R, count: usize) -> io::Result<Vec<u8>> {
+    let mut bytes = Vec::new(alloc);
+    input.take(count as u64).read_to_end(&mut bytes)?;
+    Ok(bytes)
+}
+
 // Reads the parts of the recording with this head, and replays it.
-fn parts(head: &[u8], buf: &mut [u8]) -> bool
+fn parts<R: Read>(alloc: Global, input: &mut R, head: &[u8]) -> io::Result<bool>
     requires { 80 ≤ length head.now }
 {
     let n = size_at(head, 32);
-    if buf.len() < n {
-        return false;
+    if PARTS < n {
+        return Ok(false);
     }
-    if io::read_full(0, &mut buf[..n]) != n {
-        return false;
+    let b = read_bytes(alloc, input, n)?;
+    if b.len() != n {
+        return Ok(false);
     }
-    replayed(head, &buf[..n])
+    Ok(replayed(head, &b))
 }
 
 // The next recording: whether it is answered as it was recorded; or there is none.
-#[derive(Drop)]
-pub enum Read {
-    Recording(bool),
-    Nothing,
-}
-
-fn next() -> Read {
-    let mut head = [0u8; HEAD];
-    let mut buf = [0u8; 131072];
-    if io::read_full(0, &mut head) != HEAD {
-        return Read::Nothing;
+fn next<R: Read>(alloc: Global, input: &mut R) -> io::Result<Option<bool>> {
+    let head = read_bytes(alloc, input, HEAD)?;
+    if head.len() != HEAD {
+        return Ok(None);
     }
-    Read::Recording(parts(&head, &mut buf))
-}
-
-fn say(n: usize, text: &[u8]) {
-    io::print_decimal(STDOUT_FILENO, n as u64);
-    io::write_all(STDOUT_FILENO, text);
+    Ok(Some(parts(alloc, input, &head)?))
 }
 
 // How many recordings at a place differ, 0 or 1.
-fn note(place: usize, same: bool) -> usize
-    ensures { result ≤ 1 }
+fn note(rt: &impl Print, place: usize, same: bool) -> io::Result<usize>
+    ensures { IfOk result (λ n. n ≤ 1) }
 {
     if same {
-        return 0;
+        return Ok(0);
     }
-    say(place, b" differs\n");
-    1
+    println!(rt; "{place} differs")?;
+    Ok(1)
 }
 
-fn main() {
+fn main(rt: HostRuntime) -> io::Result<()> {
+    let mut input = rt.reader();
     let mut read: usize = 0;
     let mut differ: usize = 0;
     while read < 1000000 {
-        let Read::Recording(same) = next() else {
+        let Some(same) = next(rt.alloc(), &mut input)? else {
             break;
         };
-        differ += note(read, same);
+        differ += note(&rt, read, same)?;
         read += 1;
     }
-    say(read, b" recordings, ");
-    say(differ, b" differ\n");
+    println!(rt; "{read} recordings, {differ} differ")
 }

@@ -1,7 +1,8 @@
 // The tree of the recording on standard input, as `listing` prints its listing.
 #![tactic(auto)]
-use libc::STDIN_FILENO;
 
-fn main() {
-    console::tree(STDIN_FILENO);
+use std::io;
+
+fn main(rt: HostRuntime) -> io::Result<()> {
+    console::tree(&rt, rt.reader())
 }

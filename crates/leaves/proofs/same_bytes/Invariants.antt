@@ -1,5 +1,4 @@
 -- `same_bytes` ends, and stays inside both.
-use native.Mathlib.Omega.{arith}
 use Prim.Native.Nat.{◌≤◌, ◌-◌}
 use Rattle.leaves.proofs.same_bytes.Given as goal
 

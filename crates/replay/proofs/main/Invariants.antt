@@ -1,10 +1,9 @@
 -- `main` ends: each turn reads a recording, and there are at most 1000000.
 use Prim.Native.Nat.{◌≤◌, ◌-◌}
-use borrow.Author.Rules.{rules}
 use Rattle.replay.proofs.main.Given as goal
 
 abbrev pub invariant-loop-read : goal.invariant-loop-read
-invariant-loop-read l = (read ≤ 1000000) × (differ ≤ read)
+invariant-loop-read l = (l.read ≤ 1000000) × (l.differ ≤ l.read)
 
 abbrev pub decreases-loop-read : goal.decreases-loop-read
-decreases-loop-read l = 1000000 - read
+decreases-loop-read l = 1000000 - l.read

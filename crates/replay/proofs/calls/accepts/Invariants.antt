@@ -1,6 +1,5 @@
 -- `accepts` ends: each turn is an entry.
 use Prim.Native.Nat.{◌≤◌, ◌-◌}
-use borrow.Author.Rules.{rules}
 use Rattle.replay.proofs.calls.accepts.Given as goal
 
 abbrev pub invariant-loop-number : goal.invariant-loop-number

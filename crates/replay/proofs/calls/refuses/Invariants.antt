@@ -1,6 +1,5 @@
 -- `refuses` ends: each turn is an entry.
 use Prim.Native.Nat.{◌≤◌, ◌-◌}
-use borrow.Author.Rules.{rules}
 use Rattle.replay.proofs.calls.refuses.Given as goal
 
 abbrev pub invariant-loop-number : goal.invariant-loop-number

@@ -1,6 +1,5 @@
 -- `refuses_unfinalized` ends: each turn is an entry.
 use Prim.Native.Nat.{◌≤◌, ◌-◌}
-use borrow.Author.Rules.{rules}
 use Rattle.replay.proofs.calls.refuses_unfinalized.Given as goal
 
 abbrev pub invariant-loop-number : goal.invariant-loop-number

@@ -1,5 +1,4 @@
 -- `all_zero` ends, and stays inside its table.
-use native.Mathlib.Omega.{arith}
 use Prim.Native.Nat.{◌≤◌, ◌-◌}
 use lib.ListN.{length}
 use Rattle.replay.proofs.compare.all_zero.Given as goal

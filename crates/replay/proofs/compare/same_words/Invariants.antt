@@ -1,5 +1,4 @@
 -- `same_words` ends, and stays inside its table.
-use native.Mathlib.Omega.{arith}
 use Prim.Native.Nat.{◌≤◌, ◌-◌}
 use lib.ListN.{length}
 use Rattle.replay.proofs.compare.same_words.Given as goal
