@@ -1,5 +1,4 @@
-// The recording's bytes and an offset in them: the Rust's `bytes_at`. An enum cannot hold a reference, so the reader hands out
-// fields, not the bytes.
+// The recording's bytes and an offset in them: the Rust's `bytes_at`. The reader hands out fields, not the bytes.
 ghost use Rattle.std.specs.Prelude.{◌≡◌, ◌+◌, ◌≤◌, length};
 ghost use Rattle.mdf4.specs.Bytes.{num};
 ghost use Rattle.blocks.specs.Headers.{header_read, inside_or};

@@ -43,13 +43,13 @@ pub record Walks (n : Lent) (r : List ℕ) (w : Walk) (v b l g : List ℕ) : Typ
   pub links_long : length l ≡ n.links
   pub gaps_zero : g ≡ replicate n.gaps 0
 
-abbrev pub Walked_to : Lent → List ℕ → Walked → List ℕ → List ℕ → List ℕ → List ℕ → Type 0
-Walked_to n r (walked_variants.On w) v b l g = Walks n r w v b l g
-Walked_to n r (walked_variants.Refused e) v b l g = walk_state (limits n) r ≡ err (numbers e)
+abbrev pub WalkedTo : Lent → List ℕ → Walked → List ℕ → List ℕ → List ℕ → List ℕ → Type 0
+WalkedTo n r (walked_variants.On w) v b l g = Walks n r w v b l g
+WalkedTo n r (walked_variants.Refused e) v b l g = walk_state (limits n) r ≡ err (numbers e)
 
 -- the walk answers x: its state stands in the tables; or the definition's refusal, and the tables are left free
 pub record WalkMet (n : Lent) (r : List ℕ) (x : Walked) (v b l g : List ℕ) : Type 0 where
-  pub is : Walked_to n r x v b l g
+  pub is : WalkedTo n r x v b l g
 
 -- the recording r has a layout, it stands in the tables, and what the entry asked besides was granted
 pub record Stands (asked : Out (Unit {0})) (n : Lent) (r : List ℕ) (nv nb nl ng : ℕ) (v b l g : List ℕ) : Type 0 where

@@ -16,7 +16,7 @@ use Rattle.mdf4.specs.Clear.{clear_ranges}
 use Rattle.mdf4.specs.Blank.{zeroed, nonzero, changed}
 use Rattle.mdf4.specs.Answers.{Lent, Counts, Made, made, Exit, exit, filled, room, laid, limits, counts, clearable, pair_words, clear_list_made, blank_made, counted, preview_made, layout_exit, to_text_exit, to_tree_exit, clear_list_exit, blank_exit, preview_exit, blanked, blank_recording}
 use Rattle.mdf4.specs.Demand3.{Block, read, read_by, kept, kept_by}
-use Rattle.mdf4.specs.Blanked.{Blanks, By_list, Any_lent, Untouched, Once, After, Previews, Shown_first, preview_uncounted, Idle}
+use Rattle.mdf4.specs.Blanked.{Blanks, ByList, AnyLent, Untouched, Once, After, Previews, ShownFirst, preview_uncounted, Idle}
 use Rattle.mdf4.proofs.Results.{never}
 use Rattle.mdf4.proofs.Lists.{all_map}
 use Rattle.mdf4.proofs.Reading.{Agree}
@@ -127,7 +127,7 @@ blanks n r c e =
       spares = λ j l. rw (target_is n r (blank_made n r) c a j) (keeps n r y h j (rw (← links_are n r (blank_made n r) c a) l));
     }
 
-pub by_list : By_list
+pub by_list : ByList
 by_list = record {
   same = λ n n' r c c' e e'.
       let p = cleared_by n r c e in
@@ -139,7 +139,7 @@ by_list = record {
       );
 }
 
-pub any_lent : Any_lent
+pub any_lent : AnyLent
 any_lent = record {
   same = λ n n' r c c' e e'.
       let p = cleared_by n r c e in
@@ -204,7 +204,7 @@ previews n n' r c c' e e' =
           ∙ rw b (sum_changed ps r k (ends_below (length r) 0 ps k (clear_below (limits n) (n.gaps / pair_words) r y i)));
     }
 
-pub shown_first : Shown_first
+pub shown_first : ShownFirst
 unfolding preview_exit preview_made counting blank_exit blank_made and_then exit
 shown_first = record {
   accepts = λ n r c e.

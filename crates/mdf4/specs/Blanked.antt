@@ -18,12 +18,12 @@ pub record Blanks (n : Lent) (r r' : List ℕ) (e : Exit) (c : Counts) : Type 0 
       → get_or r' i 0 ≡ get_or r i 0
 
 -- It zeroes the ranges of the clear list of the recording, whatever was lent for that list: no byte outside them moves.
-pub record By_list : Type 0 where
+pub record ByList : Type 0 where
   pub same : (n n' : Lent) (r : List ℕ) (c c' : Counts) → (blank_exit n r).answer ≡ ok c → (clear_list_exit n' r).answer ≡ ok c'
       → (ps : List Range) × (take c'.bytes (clear_list_exit n' r).out ≡ clr_bytes (length r) ps) × (blank_recording n r ≡ zeroed ps 0 r)
 
 -- What an accepted blanking leaves in the recording does not depend on what was lent.
-pub record Any_lent : Type 0 where
+pub record AnyLent : Type 0 where
   pub same : (n n' : Lent) (r : List ℕ) (c c' : Counts) → (blank_exit n r).answer ≡ ok c → (blank_exit n' r).answer ≡ ok c' → blank_recording n' r ≡ blank_recording n r
 
 -- A refused blanking leaves the recording as it was.
@@ -49,7 +49,7 @@ pub record Previews (n : Lent) (r r' : List ℕ) (e : Exit) (c : Counts) : Type 
   pub total : c.total ≡ changed r r' (0, length r)
 
 -- Where a preview is accepted, so is the blanker with the same lengths.
-pub record Shown_first : Type 0 where
+pub record ShownFirst : Type 0 where
   pub accepts : (n : Lent) (r : List ℕ) (c : Counts) → (preview_exit n r).answer ≡ ok c → (c' : Counts) × ((blank_exit n r).answer ≡ ok c')
 
 -- a preview but for what it counts: the answer without the total, and no counts

@@ -201,14 +201,14 @@ unfolding edge_of
 root_prints r n b m l w out out' b' a i bars p = p
 
 -- the loop over the roots: what the rows from i on print is left of the outcome o
-pub record Left_roots (r : List ℕ) (n m : ℕ) (l b out : List ℕ) (a i : ℕ) (y : Layout) (z : List ℕ) (o : Out Shown) : Type 0 where
+pub record LeftRoots (r : List ℕ) (n m : ℕ) (l b out : List ℕ) (a i : ℕ) (y : Layout) (z : List ℕ) (o : Out Shown) : Type 0 where
   pub printed : List ℕ
   pub holds : Holds n b m l y z printed
   pub is : o ≡ shown (page out a) (roots r y (drop i y.blocks) printed)
 
 pub record Rooting (r : List ℕ) (n m : ℕ) (l b₀ out₀ b out : List ℕ) (a i : ℕ) : Type 0 where
   pub same : (j : ℕ) → row_at j b ≡ row_at j b₀
-  pub left : (y : Layout) (z v : List ℕ) → Holds n b₀ m l y z v → Left_roots r n m l b out a i y z (shown (page out₀ 0) (roots r y y.blocks v))
+  pub left : (y : Layout) (z v : List ℕ) → Holds n b₀ m l y z v → LeftRoots r n m l b out a i y z (shown (page out₀ 0) (roots r y y.blocks v))
 
 module _ (r : List ℕ) (n m : ℕ) (l b₀ out₀ : List ℕ) where
   pub rooting : Rooting r n m l b₀ out₀ b₀ out₀ 0 0
@@ -224,7 +224,7 @@ module _ (r : List ℕ) (n m : ℕ) (l b₀ out₀ : List ℕ) where
       pub root_listed : (get_or b (mark_at i) 0 ≡ 0 → ⊥) → Rooting r n m l b₀ out₀ b out a (i + 1)
       root_listed c = record { same = t.same; left = left }
         where
-          left : (y : Layout) (z v : List ℕ) → Holds n b₀ m l y z v → Left_roots r n m l b out a (i + 1) y z (shown (page out₀ 0) (roots r y y.blocks v))
+          left : (y : Layout) (z v : List ℕ) → Holds n b₀ m l y z v → LeftRoots r n m l b out a (i + 1) y z (shown (page out₀ 0) (roots r y y.blocks v))
           left y z v h =
               let s = t.left y z v h in
               let e : elem (row_at i b).off s.printed ≡ true = bit_true (elem (row_at i b).off s.printed) (λ x. c (mark_held s.holds i k ∙ x)) in
@@ -245,7 +245,7 @@ module _ (r : List ℕ) (n m : ℕ) (l b₀ out₀ : List ℕ) where
         pub root_printed : (a' : ℕ) → w ≡ Text a' → Rooting r n m l b₀ out₀ b' out' a' (i + 1)
         root_printed a' e = record { same = λ j. p.same j ∙ t.same j; left = left }
           where
-            left : (y : Layout) (z v : List ℕ) → Holds n b₀ m l y z v → Left_roots r n m l b' out' a' (i + 1) y z (shown (page out₀ 0) (roots r y y.blocks v))
+            left : (y : Layout) (z v : List ℕ) → Holds n b₀ m l y z v → LeftRoots r n m l b' out' a' (i + 1) y z (shown (page out₀ 0) (roots r y y.blocks v))
             left y z v h =
                 let s = t.left y z v h in
                 let g : Went a' out' b' y z (shown (page out a) (render_tree_node r y max_levels root (row_at i b) s.printed)) = rw e at (p.told y z s.printed s.holds) in

@@ -53,14 +53,14 @@ pub record Into (r : List ℕ) (n m : ℕ) (l : List ℕ) (levels : ℕ) (bars :
   pub holds : Holds n b m l y z printed
   pub is : o ≡ shown (page out a) (below r y (levels - 1) bars kind first end first printed)
 
-abbrev pub Told_opened : List ℕ → ℕ → ℕ → List ℕ → ℕ → List Bool → Opened → List ℕ → List ℕ → Layout → List ℕ → Out Shown → Type 0
-Told_opened r n m l levels bars (Below a kind first end) out b y z o = Into r n m l levels bars a kind first end out b y z o
-Told_opened r n m l levels bars (Done a) out b y z o = Went a out b y z o
-Told_opened r n m l levels bars (Opened_Refused e) out b y z o = Stopped e o
+abbrev pub ToldOpened : List ℕ → ℕ → ℕ → List ℕ → ℕ → List Bool → Opened → List ℕ → List ℕ → Layout → List ℕ → Out Shown → Type 0
+ToldOpened r n m l levels bars (Below a kind first end) out b y z o = Into r n m l levels bars a kind first end out b y z o
+ToldOpened r n m l levels bars (Done a) out b y z o = Went a out b y z o
+ToldOpened r n m l levels bars (Opened_Refused e) out b y z o = Stopped e o
 
 -- a node is opened: the links to follow are among m
 pub record Opens (r : List ℕ) (n : ℕ) (b : List ℕ) (m : ℕ) (l : List ℕ) (levels : ℕ) (bars : List Bool) (q : Opened) (out' b' : List ℕ) (o : Layout → List ℕ → Out Shown) : Type 0 where
-  pub told : (y : Layout) (z v : List ℕ) → Holds n b m l y z v → Told_opened r n m l levels bars q out' b' y z (o y v)
+  pub told : (y : Layout) (z v : List ℕ) → Holds n b m l y z v → ToldOpened r n m l levels bars q out' b' y z (o y v)
   pub same : (i : ℕ) → row_at i b' ≡ row_at i b
   pub inside : (a kind first end : ℕ) → q ≡ Below a kind first end → (first ≤ end) × (end ≤ m) × (1 ≤ levels)
 

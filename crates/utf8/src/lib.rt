@@ -183,20 +183,16 @@ pub fn is_utf8(s: &[u8], at: usize, end: usize) -> bool
 
 // White_Space: the first and the last code point of each range.
 const WHITE: [u32; 20] = [
-    0x9, // tab
-    0xd, // carriage return
-    0x20, // space
-    0x20, 0x85, // next line
-    0x85, 0xa0, // no-break space
-    0xa0, 0x1680, // Ogham space mark
-    0x1680, 0x2000, // en quad
-    0x200a, // hair space
-    0x2028, // line separator
-    0x2029, // paragraph separator
-    0x202f, // narrow no-break space
-    0x202f, 0x205f, // medium mathematical space
-    0x205f, 0x3000, // ideographic space
-    0x3000,
+    // tab to carriage return, space
+    0x9, 0xd, 0x20, 0x20,
+    // next line, no-break space
+    0x85, 0x85, 0xa0, 0xa0,
+    // Ogham space mark, en quad to hair space
+    0x1680, 0x1680, 0x2000, 0x200a,
+    // line separator and paragraph separator, narrow no-break space
+    0x2028, 0x2029, 0x202f, 0x202f,
+    // medium mathematical space, ideographic space
+    0x205f, 0x205f, 0x3000, 0x3000,
 ];
 
 // Whether a code point is of White_Space.

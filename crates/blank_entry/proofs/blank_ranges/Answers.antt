@@ -1,8 +1,6 @@
 -- `blank_ranges` meets its contract: the clear bytes are zeroed, or the tables and not the recording. Assumes nothing.
 use mathlib.Core.Path.{refl, sym, ◌∙◌}
 use mathlib.Core.List.{[]}
-use native.Mathlib.Omega.{arith}
-use borrow.Author.Rules.{rules}
 use lib.ListN.{length}
 use Rattle.file_layout.specs.Tables.{lent}
 use Rattle.clear_layout.proofs.Clearing.{clear_tables, clear_refused, inner}

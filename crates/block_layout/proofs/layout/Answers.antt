@@ -1,7 +1,6 @@
 -- `layout` meets its contract: the layout stands in the tables, or they are zeroed again. Assumes nothing.
 use mathlib.Core.Path.{refl, sym, ◌∙◌}
 use mathlib.Core.List.{[]}
-use borrow.Author.Rules.{rules}
 use Rattle.file_layout.specs.Tables.{lent}
 use Rattle.file_layout.proofs.Standing.{laid_tables, laid_refused}
 use Rattle.answers.proofs.Exits.{refused_exit}

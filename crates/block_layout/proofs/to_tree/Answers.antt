@@ -1,7 +1,6 @@
 -- `to_tree` meets its contract: the walk or a line too deep refuses, or the text fits or not. Assumes nothing.
 use mathlib.Core.Path.{sym, ◌∙◌}
 use native.Mathlib.Omega.{arith}
-use borrow.Author.Rules.{rules}
 use lib.ListN.{length}
 use Rattle.file_layout.specs.Tables.{lent}
 use Rattle.file_layout.proofs.Standing.{laid_tables, laid_refused, printable}

@@ -1,5 +1,4 @@
 -- `block_layout_c_blank` meets its contract: the entry, its answer as words, and the recording that it leaves. Assumes nothing.
-use borrow.Author.Rules.{rules}
 use Rattle.block_layout_c.proofs.Exits.{exit_told, answer_told}
 use Rattle.block_layout_c.proofs.block_layout_c_blank.Goals as goal
 

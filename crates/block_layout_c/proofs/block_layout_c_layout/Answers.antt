@@ -1,5 +1,4 @@
 -- `block_layout_c_layout` meets its contract: the entry, and its answer as words. Assumes nothing.
-use borrow.Author.Rules.{rules}
 use Rattle.block_layout_c.proofs.Exits.{exit_told, answer_told}
 use Rattle.block_layout_c.proofs.block_layout_c_layout.Goals as goal
 

@@ -1,10 +1,8 @@
 -- `store_answer` meets its contract: at turn i the first i words are stored. Assumes nothing.
-use Prim.Native.Nat.{◌-◌}
 use native.Mathlib.Omega.{arith}
-use borrow.Author.Rules.{rules}
 use mathlib.Core.Path.{◌∙◌, ap}
 use lib.ListN.{length}
-use Rattle.block_layout_c.proofs.Storing.{ten, Storing, store_none, store_more, ten_stored}
+use Rattle.block_layout_c.proofs.Storing.{ten, store_none, store_more, ten_stored}
 use Rattle.block_layout_c.proofs.store_answer.Goals as goal
 
 pub loop-i-init : goal.loop-i-init

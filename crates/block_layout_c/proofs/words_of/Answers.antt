@@ -1,6 +1,5 @@
 -- `words_of` meets its contract. Assumes nothing.
 use mathlib.Core.Path.{ap}
-use borrow.Author.Rules.{rules}
 use Rattle.mdf4.specs.Act.{Refusal, err}
 use Rattle.block_layout_c.specs.Words.{answer_words}
 use Rattle.block_layout_c.proofs.words_of.Goals as goal

@@ -1,7 +1,6 @@
 -- `preview_counts` meets its contract: what precedes the counts refuses, or they fit or not. Assumes nothing.
 use mathlib.Core.Path.{refl, sym, ◌∙◌}
 use native.Mathlib.Omega.{arith}
-use borrow.Author.Rules.{rules}
 use lib.ListN.{length}
 use Rattle.file_layout.specs.Tables.{lent}
 use Rattle.clear_layout.proofs.Clearing.{clear_tables, clear_refused, inner}
