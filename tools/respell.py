@@ -1,5 +1,6 @@
 #!/usr/bin/env python3
-"""Spells this repository's own definitions, lemmas and variables of specs/ and proofs/ in snake case: `lead-of` becomes `lead_of`.
+"""Spells this repository's own definitions, lemmas and variables of specs/ and proofs/ in snake case, and types in camel case:
+`lead-of` becomes `lead_of`, and `Any-lent` `AnyLent`.
 
 usage: python3 tools/respell.py [FOLDER]     in the repository, or over the copy of it in FOLDER; run once, after port.py
 
@@ -37,10 +38,12 @@ def imported(text, crates):
 
 
 def is_kebab(name):
-    return "-" in name.strip("-") and re.search(r"[^\W\d_]", name) and "◌" not in name and not name.startswith("'")
+    return "-" in name.strip("-") and re.search(r"[^\W\d_]", name) and "◌" not in name and not re.match(r"b?'", name)
 
 
 def respelled(name):
+    if re.match(r"[A-Z][a-z]", name):
+        return re.sub(r"-(\w)", lambda m: m[1].upper(), name)
     return re.sub(r"(?<=[\w'])-(?=[\w'])", "_", name)
 
 
@@ -57,7 +60,7 @@ def parts(path, text):
             cut = re.search(r"(^|\s)--(\s|$)", body)
             end = cut.start() if cut else len(body)
             at = 0
-            for quoted in re.finditer(r'"[^"]*"', body[:end]):
+            for quoted in re.finditer(r'"(?:\\.|[^"\\])*"', body[:end]):
                 yield line.start() + at, line.start() + quoted.start()
                 at = quoted.end()
             yield line.start() + at, line.start() + end

@@ -25,7 +25,7 @@ use Rattle.to_tree.specs.declared.search.Child as declared
 use Rattle.to_tree.specs.declared.Tree.{Tree}
 use Rattle.to_tree.specs.declared.Tree.TheVariants.{Text, Refused}
 use Rattle.to_tree.specs.declared.Opened.{Opened}
-use Rattle.to_tree.specs.declared.Opened.TheVariants.{Below, Done, Refused as Opened_Refused}
+use Rattle.to_tree.specs.declared.Opened.TheVariants.{Below, Done, Refused as OpenedRefused}
 use Rattle.to_tree.proofs.Lines.{child_edge}
 use Rattle.to_tree.proofs.Opening.{node}
 use Rattle.to_tree.proofs.Searching.{from_cons, from_next, from_end}
@@ -172,7 +172,7 @@ child_prints r n b m l w out out' b' a row kind place levels x bars bars₀ h k 
 module _ (r : List ℕ) (n : ℕ) (b : List ℕ) (m : ℕ) (l : List ℕ) (levels : ℕ) (bars : List Bool) (out₁ b₁ : List ℕ) (o : Layout → List ℕ → Out Shown) where
   pub unopened : (q : Opened) (x : Tree) → ((a k f e : ℕ) → q ≡ Below a k f e → ⊥) → x ≡ not_opened q → Opens r n b m l levels bars q out₁ b₁ o → Prints n b m l x out₁ b₁ o
   unopened (Done a) x g e p = record { told = λ y z v h. rw e (p.told y z v h); same = p.same }
-  unopened (Opened_Refused d) x g e p = record { told = λ y z v h. rw e (p.told y z v h); same = p.same }
+  unopened (OpenedRefused d) x g e p = record { told = λ y z v h. rw e (p.told y z v h); same = p.same }
   unopened (Below a k f e) x g i p = absurd (g a k f e refl)
 
   module _ (q : Opened) (p : Opens r n b m l levels bars q out₁ b₁ o) (a kind first end : ℕ) (e : q ≡ Below a kind first end) (out' b' : List ℕ) (s : (i : ℕ) → row_at i b' ≡ row_at i b₁) where

@@ -15,7 +15,7 @@ use Rattle.to_tree.specs.Search.{children_from}
 use Rattle.to_tree.specs.declared.Tree.{Tree}
 use Rattle.to_tree.specs.declared.Tree.TheVariants.{Text, Refused}
 use Rattle.to_tree.specs.declared.Opened.{Opened}
-use Rattle.to_tree.specs.declared.Opened.TheVariants.{Below, Done, Refused as Opened_Refused}
+use Rattle.to_tree.specs.declared.Opened.TheVariants.{Below, Done, Refused as OpenedRefused}
 
 -- the tables hold the layout y, with the offsets v printed, and the words z behind its rows
 pub record Holds (n : ℕ) (b : List ℕ) (m : ℕ) (l : List ℕ) (y : Layout) (z v : List ℕ) : Type 0 where
@@ -56,7 +56,7 @@ pub record Into (r : List ℕ) (n m : ℕ) (l : List ℕ) (levels : ℕ) (bars :
 abbrev pub ToldOpened : List ℕ → ℕ → ℕ → List ℕ → ℕ → List Bool → Opened → List ℕ → List ℕ → Layout → List ℕ → Out Shown → Type 0
 ToldOpened r n m l levels bars (Below a kind first end) out b y z o = Into r n m l levels bars a kind first end out b y z o
 ToldOpened r n m l levels bars (Done a) out b y z o = Went a out b y z o
-ToldOpened r n m l levels bars (Opened_Refused e) out b y z o = Stopped e o
+ToldOpened r n m l levels bars (OpenedRefused e) out b y z o = Stopped e o
 
 -- a node is opened: the links to follow are among m
 pub record Opens (r : List ℕ) (n : ℕ) (b : List ℕ) (m : ℕ) (l : List ℕ) (levels : ℕ) (bars : List Bool) (q : Opened) (out' b' : List ℕ) (o : Layout → List ℕ → Out Shown) : Type 0 where
@@ -67,7 +67,7 @@ pub record Opens (r : List ℕ) (n : ℕ) (b : List ℕ) (m : ℕ) (l : List ℕ
 abbrev pub not_opened : Opened → Tree
 not_opened (Below a kind first end) = Text a
 not_opened (Done a) = Text a
-not_opened (Opened_Refused e) = Refused e
+not_opened (OpenedRefused e) = Refused e
 
 -- the whole tree: its text is written from the output's start on, and the rows ws have their tree marks
 pub record Whole (a : ℕ) (out out' b' : List ℕ) (ws : List Row) (z : List ℕ) (o : Out Printed) : Type 0 where
