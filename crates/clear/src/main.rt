@@ -4,5 +4,5 @@
 use std::io;
 
 fn main(rt: HostRuntime) -> io::Result<()> {
-    console::clear(&rt, rt.reader())
+    console::clear(&rt, &mut rt.reader())
 }

@@ -5,19 +5,9 @@
 
 use block_layout::Answer;
 use blocks::error::MdfError;
-use std::alloc::Global;
+use reading::read_full;
 use std::io;
 use std::io::Read;
-
-// Bytes of the longest recording.
-const LONGEST: usize = 65536;
-
-// The recording, or of a longer one its first LONGEST + 1 bytes.
-fn read_recording<R: Read + Drop>(alloc: Global, input: R) -> io::Result<Vec<u8>> {
-    let mut data = Vec::new(alloc);
-    input.take(LONGEST as u64 + 1).read_to_end(&mut data)?;
-    Ok(data)
-}
 
 // The first bytes of an output; an entry answers no more than it was lent.
 fn say_output(rt: &impl Print, out: &[u8], bytes: usize) -> io::Result<()> {
@@ -52,9 +42,10 @@ fn say(rt: &impl Print, answer: Answer, out: &[u8]) -> io::Result<()> {
 }
 
 // Document 01's listing program.
-pub fn listing<R: Read + Drop>(rt: &(impl Print + AllocGlobal), input: R) -> io::Result<()> {
-    let data = read_recording(rt.alloc(), input)?;
-    if LONGEST < data.len() {
+pub fn listing<R: Read>(rt: &impl Print, input: &mut R) -> io::Result<()> {
+    let mut data = [0u8; 65537];
+    let n = read_full(input, &mut data)?;
+    if 65536 < n {
         return say_too_long(rt);
     }
     let mut visited = [0u64; 8192];
@@ -63,7 +54,7 @@ pub fn listing<R: Read + Drop>(rt: &(impl Print + AllocGlobal), input: R) -> io:
     let mut gaps = [0u64; 8192];
     let mut out = [0u8; 65536];
     let answer = block_layout::to_text(
-        &data,
+        &data[..n],
         &mut visited,
         &mut blocks,
         &mut links,
@@ -74,9 +65,10 @@ pub fn listing<R: Read + Drop>(rt: &(impl Print + AllocGlobal), input: R) -> io:
 }
 
 // The same of the tree.
-pub fn tree<R: Read + Drop>(rt: &(impl Print + AllocGlobal), input: R) -> io::Result<()> {
-    let data = read_recording(rt.alloc(), input)?;
-    if LONGEST < data.len() {
+pub fn tree<R: Read>(rt: &impl Print, input: &mut R) -> io::Result<()> {
+    let mut data = [0u8; 65537];
+    let n = read_full(input, &mut data)?;
+    if 65536 < n {
         return say_too_long(rt);
     }
     let mut visited = [0u64; 8192];
@@ -85,7 +77,7 @@ pub fn tree<R: Read + Drop>(rt: &(impl Print + AllocGlobal), input: R) -> io::Re
     let mut gaps = [0u64; 8192];
     let mut out = [0u8; 65536];
     let answer = block_layout::to_tree(
-        &data,
+        &data[..n],
         &mut visited,
         &mut blocks,
         &mut links,
@@ -96,9 +88,10 @@ pub fn tree<R: Read + Drop>(rt: &(impl Print + AllocGlobal), input: R) -> io::Re
 }
 
 // The same of the clear list, whose CLR bytes are printed.
-pub fn clear<R: Read + Drop>(rt: &(impl Print + AllocGlobal), input: R) -> io::Result<()> {
-    let data = read_recording(rt.alloc(), input)?;
-    if LONGEST < data.len() {
+pub fn clear<R: Read>(rt: &impl Print, input: &mut R) -> io::Result<()> {
+    let mut data = [0u8; 65537];
+    let n = read_full(input, &mut data)?;
+    if 65536 < n {
         return say_too_long(rt);
     }
     let mut visited = [0u64; 8192];
@@ -108,7 +101,7 @@ pub fn clear<R: Read + Drop>(rt: &(impl Print + AllocGlobal), input: R) -> io::R
     let mut scratch = [0u64; 8192];
     let mut out = [0u8; 65536];
     let answer = block_layout::clear_list(
-        &data,
+        &data[..n],
         &mut visited,
         &mut blocks,
         &mut links,

@@ -8,11 +8,8 @@ ghost use Rattle.leaves.specs.Onward.{Onward};
 use blocks::data_type::put_data_type;
 use blocks::identification_block::{IdentificationBlock, VersionRead};
 use little_endian::{read_u16, read_u32, read_u64};
+use reading::read_full;
 use std::io;
-use std::io::Read;
-
-// Bytes of records that are read.
-const RECORDS: u64 = 262144;
 
 fn put_bool(out: &mut [u8], b: bool) -> usize {
     if b {
@@ -210,7 +207,7 @@ fn replay(rt: &impl Print, b: &[u8]) -> io::Result<()> {
 }
 
 fn main(rt: HostRuntime) -> io::Result<()> {
-    let mut records = Vec::new(rt.alloc());
-    rt.reader().take(RECORDS).read_to_end(&mut records)?;
-    replay(&rt, &records)
+    let mut buf = [0u8; 262144];
+    let n = read_full(&mut rt.reader(), &mut buf)?;
+    replay(&rt, &buf[..n])
 }

@@ -4,5 +4,5 @@
 use std::io;
 
 fn main(rt: HostRuntime) -> io::Result<()> {
-    console::listing(&rt, rt.reader())
+    console::listing(&rt, &mut rt.reader())
 }

@@ -2,9 +2,10 @@
 // ones, and ones at the limits. tools/programs.py wrote the recordings and what is to be printed.
 #![tactic(auto)]
 
+use std::env::{Env, FillError};
 use std::fs::File;
+use std::io;
 use std::rt::Files;
-use std::{env, io};
 
 const LISTING: u8 = 0;
 
@@ -13,33 +14,43 @@ const TREE: u8 = 1;
 const CLEAR: u8 = 2;
 
 // What a program prints of the file named.
-fn run(rt: &(impl Files + Print + AllocGlobal), path: &str, program: u8) -> io::Result<()> {
-    let Ok(file) = File::open(rt, path) else {
+fn run(rt: &(impl Files + Print), path: &[u8], program: u8) -> io::Result<()> {
+    let Ok(name) = str::from_utf8(path) else {
+        return println!(rt; "not opened");
+    };
+    let Ok(mut file) = File::open(rt, name) else {
         return println!(rt; "not opened");
     };
     if program == LISTING {
-        return console::listing(rt, file);
+        return console::listing(rt, &mut file);
     }
     if program == TREE {
-        return console::tree(rt, file);
+        return console::tree(rt, &mut file);
     }
     if program == CLEAR {
-        return console::clear(rt, file);
+        return console::clear(rt, &mut file);
     }
     Ok(())
 }
 
 // The three programs on the file that an argument names.
-fn programs(rt: &(impl Files + Print + AllocGlobal), path: &str) -> io::Result<()> {
-    rt.println(path)?;
+fn programs(rt: &(impl Files + Print), path: &[u8]) -> io::Result<()> {
+    rt.write_all(path)?;
+    rt.write_all(b"\n")?;
     run(rt, path, LISTING)?;
     run(rt, path, TREE)?;
     run(rt, path, CLEAR)
 }
 
 fn main(rt: HostRuntime) -> io::Result<()> {
-    for path in env::args(&rt)?.skip(1) {
-        programs(&rt, path.as_str())?;
+    for i in 1..usize::MAX {
+        let mut path = [0u8; 4096];
+        match rt.arg(i, &mut path) {
+            Ok(n) => programs(&rt, &path[..n])?,
+            // a longer name than any file's
+            Err(FillError::TooLong) => programs(&rt, b"")?,
+            Err(FillError::NotPresent) => return Ok(()),
+        }
     }
     Ok(())
 }

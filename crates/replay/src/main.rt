@@ -14,15 +14,12 @@ mod recording;
 
 use calls::{accepts, refuses, refuses_unfinalized};
 use clear::{COPY, zero_clear};
+use reading::read_full;
 use recording::{Ends, Want, ends_of, recorded, size_at, unfinalized};
-use std::alloc::Global;
 use std::io;
-use std::io::Read;
 
-// Bytes of a recording's head, and of the parts of the longest recording.
+// Bytes of a recording's head.
 const HEAD: usize = 80;
-
-const PARTS: usize = 131072;
 
 // All calls for what the blanker leaves of the recording, made in this copy.
 fn copy_calls(copy: &mut [u8], data: &[u8], b: &[u8], ends: Ends, places: Want) -> bool
@@ -86,35 +83,37 @@ fn replayed(head: &[u8], b: &[u8]) -> bool
     calls_for(b, ends, recorded(head), unfinalized(head))
 }
 
-// Reads this many bytes; fewer where the input ends before.
-fn read_bytes<R: Read>(alloc: Global, input: &mut R, count: usize) -> io::Result<Vec<u8>> {
-    let mut bytes = Vec::new(alloc);
-    input.take(count as u64).read_to_end(&mut bytes)?;
-    Ok(bytes)
-}
-
 // Reads the parts of the recording with this head, and replays it.
-fn parts<R: Read>(alloc: Global, input: &mut R, head: &[u8]) -> io::Result<bool>
+fn parts<R: io::Read>(input: &mut R, head: &[u8], buf: &mut [u8]) -> io::Result<bool>
     requires { 80 ≤ length head.now }
 {
     let n = size_at(head, 32);
-    if PARTS < n {
+    if buf.len() < n {
         return Ok(false);
     }
-    let b = read_bytes(alloc, input, n)?;
-    if b.len() != n {
+    if read_full(input, &mut buf[..n])? != n {
         return Ok(false);
     }
-    Ok(replayed(head, &b))
+    Ok(replayed(head, &buf[..n]))
 }
 
 // The next recording: whether it is answered as it was recorded; or there is none.
-fn next<R: Read>(alloc: Global, input: &mut R) -> io::Result<Option<bool>> {
-    let head = read_bytes(alloc, input, HEAD)?;
-    if head.len() != HEAD {
-        return Ok(None);
+pub enum Read {
+    Recording(bool),
+    Nothing,
+}
+
+fn next<R: io::Read>(input: &mut R) -> io::Result<Read> {
+    let mut head = [0u8; HEAD];
+    let mut buf = [0u8; 131072];
+    if read_full(input, &mut head)? != HEAD {
+        return Ok(Read::Nothing);
     }
-    Ok(Some(parts(alloc, input, &head)?))
+    Ok(Read::Recording(parts(input, &head, &mut buf)?))
+}
+
+fn say(rt: &impl Print, n: usize, text: &str) -> io::Result<()> {
+    print!(rt; "{n}{text}")
 }
 
 // How many recordings at a place differ, 0 or 1.
@@ -124,7 +123,7 @@ fn note(rt: &impl Print, place: usize, same: bool) -> io::Result<usize>
     if same {
         return Ok(0);
     }
-    println!(rt; "{place} differs")?;
+    say(rt, place, " differs\n")?;
     Ok(1)
 }
 
@@ -133,11 +132,12 @@ fn main(rt: HostRuntime) -> io::Result<()> {
     let mut read: usize = 0;
     let mut differ: usize = 0;
     while read < 1000000 {
-        let Some(same) = next(rt.alloc(), &mut input)? else {
+        let Read::Recording(same) = next(&mut input)? else {
             break;
         };
         differ += note(&rt, read, same)?;
         read += 1;
     }
-    println!(rt; "{read} recordings, {differ} differ")
+    say(&rt, read, " recordings, ")?;
+    say(&rt, differ, " differ\n")
 }

@@ -4,5 +4,5 @@
 use std::io;
 
 fn main(rt: HostRuntime) -> io::Result<()> {
-    console::tree(&rt, rt.reader())
+    console::tree(&rt, &mut rt.reader())
 }
