@@ -98,6 +98,7 @@ fn parts<R: io::Read>(input: &mut R, head: &[u8], buf: &mut [u8]) -> io::Result<
 }
 
 // The next recording: whether it is answered as it was recorded; or there is none.
+#[derive(Drop)]
 pub enum Read {
     Recording(bool),
     Nothing,
