@@ -1,13 +1,13 @@
 -- The laws by which a number is written digit by digit, and some numbers' texts. Assumes nothing.
 use Prim.Native.Nat.{ℕ, zero, suc, ◌-◌, ◌+◌, ◌/◌, ◌%◌, ◌≤◌, ◌<◌}
-use native.Mathlib.Nat.{div-lt_self}
+use native.Mathlib.Nat.{div-lt_self, mod-eq_of_lt}
 use native.Mathlib.Decide.{dec_lt}
 use native.Mathlib.Omega.{arith}
 use mathlib.Core.Path.{◌≡◌, refl, sym, ap, ◌∙◌}
 use mathlib.Core.List.{List, [], ◌∷◌, ◌++◌, append_assoc}
 use lib.ListN.{length, replicate, length-append}
 use borrow.Author.Tests.{lt-ltb, le-ltb}
-use Rattle.fmt.specs.Text.{ascii, Wrote}
+use Rattle.fmt.specs.Text.{ascii}
 use Rattle.fmt.specs.Digits.{digit, digits_to, digits, pad_left, dec, dec_right, hex}
 
 dec_0 : dec 0 ≡ ascii "0"
@@ -25,13 +25,6 @@ dec_right_10 = refl
 hex_10 : hex 10 168 ≡ ascii "00000000a8"
 unfolding pad_left digits digits_to
 hex_10 = refl
-
--- a digit by its two cases
-pub digit_low : {out out' : List ℕ} {at at' : ℕ} (d : ℕ) → d < 10 → Wrote out at ((48 + d) ∷ []) out' at' → Wrote out at (digit d ∷ []) out' at'
-digit_low d h w = rw (lt-ltb d 10 h) w
-
-pub digit_high : {out out' : List ℕ} {at at' : ℕ} (d : ℕ) → 10 ≤ d → Wrote out at ((87 + d) ∷ []) out' at' → Wrote out at (digit d ∷ []) out' at'
-digit_high d h w = rw (le-ltb d 10 h) w
 
 -- the digits of a number with a bound on how many
 digits_to_small : (b f x : ℕ) → x < b → digits_to b f x ≡ digit x ∷ []
@@ -77,9 +70,9 @@ pad_left_snoc w p d l =
     let e : w - (length l + 1) ≡ w - 1 - length l = omega arith in
     simp (length-append, append_assoc, e)
 
-pub number_small : (w p b x : ℕ) → x < b → pad_left w p (digits b x) ≡ replicate (w - 1) p ++ (digit x ∷ [])
+pub number_small : (w p b x : ℕ) → x < b → pad_left w p (digits b x) ≡ replicate (w - 1) p ++ (digit (x % b) ∷ [])
 unfolding pad_left
-number_small w p b x h = rw (digits_small b x h)
+number_small w p b x h = rw (digits_small b x h, mod-eq_of_lt h)
 
 pub number_more : (w p b x : ℕ) → 2 ≤ b → b ≤ x → pad_left w p (digits b x) ≡ pad_left (w - 1) p (digits b (x / b)) ++ (digit (x % b) ∷ [])
 number_more w p b x hb h = rw (digits_more b x hb h) (pad_left_snoc w p (digit (x % b)) (digits b (x / b)))

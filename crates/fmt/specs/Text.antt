@@ -3,6 +3,7 @@ use Rattle.std.specs.Prelude.{ℕ, ◌+◌, ◌-◌, ◌^◌, min, ◌≡◌, Li
 use Prim.Native.Char.{code}
 use Prim.Native.String.{String}
 use Prim.Native.String as S
+use Rattle.fmt.specs.declared.Page as lent
 
 -- the bytes of a text of ASCII characters
 abbrev pub ascii : String → List ℕ
@@ -24,3 +25,8 @@ emit p (b ∷ bs) = emit (step p b) bs
 -- what a function that writes the text t ensures: the output and the count before, the text, and the output and the count after
 pub record Wrote (out : List ℕ) (at : ℕ) (t : List ℕ) (out' : List ℕ) (at' : ℕ) : Type 0 where
   pub is : page out' at' ≡ emit (page out at) t
+
+-- the same of the code's `Page`, which goes on lending the same output
+pub record Writes (p : lent.Page) (t : List ℕ) (q : lent.Page) : Type 0 where
+  pub same_reference : q.out.ghost_name ≡ p.out.ghost_name
+  pub wrote : Wrote p.out.now p.at t q.out.now q.at

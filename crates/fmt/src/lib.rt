@@ -1,342 +1,215 @@
 // Bytes into a lent output, in place of Rust's format!. specs/ says what is written.
 #![tactic(auto)]
 
-ghost use Rattle.std.specs.Prelude.{◌≡◌, false, ◌∷◌, [], ◌++◌, ◌<◌, ◌≤◌, ◌-◌, ◌^◌, min, T, pos, negsuc, ◌-ℤ◌, length, replicate, get_or};
-ghost use Rattle.std.proofs.Math.Seq.{slice};
-ghost use Rattle.std.specs.Int.Signed.{lt_z};
-ghost use Rattle.fmt.specs.Text.{Wrote};
+ghost use Rattle.std.specs.Prelude.{◌≡◌, ◌∷◌, [], ◌++◌, ◌<◌, ◌≤◌, ◌-◌, ◌^◌, min, length, replicate};
+ghost use Rattle.fmt.specs.Text.{Writes};
 ghost use Rattle.fmt.specs.Digits.{digit, digits, pad_left, pad_right, dec, dec_right, hex, i16_of, dec_signed};
 ghost use Rattle.fmt.specs.Format.{piece, takes, format};
 ghost use Rattle.fmt.specs.Preview.{flat, preview};
 ghost use Rattle.utf8.specs.Utf8.{char, chunks, shown_all, lossy};
 
-use utf8::{Step, chars_end, count_chars, step_at};
+use utf8::{Chunk, Chunks, count_chars, first_chars};
 
-// One byte: it is stored if it fits, and it counts either way. The count stops at 2^64 - 1.
-pub fn put(out: &mut [u8], at: usize, b: u8) -> usize
-    ensures { Wrote out.old at (b ∷ []) out.new result }
-{
-    if at < out.len() {
-        out[at] = b;
-        return at + 1;
-    }
-    if at < 0xffff_ffff_ffff_ffff {
-        at + 1
-    } else {
-        at
-    }
+// A lent output, and the number of bytes that were to be written into it so far, those that did not fit among them.
+// It is no fmt::Write: that trait promises nothing of an Err, and what is here cannot fail.
+#[derive(Drop)]
+pub struct Page<'a> {
+    pub out: &'a mut [u8],
+    pub at: usize,
 }
 
-// The bytes of s, one after the other.
-pub fn put_bytes(out: &mut [u8], at: usize, s: &[u8]) -> usize
-    ensures { Wrote out.old at s.now out.new result }
-{
-    let mut a = at;
-    let mut i = 0;
-    while i < s.len() {
-        a = put(out, a, s[i]);
-        i += 1;
-    }
-    a
-}
-
-// The bytes of s from `from` up to `end`.
-pub fn put_part(out: &mut [u8], at: usize, s: &[u8], from: usize, end: usize) -> usize
-    requires { (from ≤ end) × (end ≤ length s.now) }
-    ensures { Wrote out.old at (slice from end s.now) out.new result }
-{
-    put_bytes(out, at, &s[from..end])
-}
-
-// The byte b, n times.
-pub fn put_times(out: &mut [u8], at: usize, b: u8, n: usize) -> usize
-    ensures { Wrote out.old at (replicate n b) out.new result }
-{
-    let mut a = at;
-    let mut i = 0;
-    while i < n {
-        a = put(out, a, b);
-        i += 1;
-    }
-    a
-}
-
-// The digit that stands for a number below 16.
-fn put_digit(out: &mut [u8], at: usize, d: u64) -> usize
-    requires { d < 16 }
-    ensures { Wrote out.old at (digit d ∷ []) out.new result }
-{
-    if d < 10 {
-        put(out, at, 48 + (d as u8))
-    } else {
-        put(out, at, 87 + (d as u8))
+impl<'a> Page<'a> {
+    pub fn new(out: &'a mut [u8]) -> Page<'a>
+        ensures same_reference { result.out.ghost_name ≡ out.entry.ghost_name }
+        ensures out { result.out.now ≡ out.old }
+        ensures at { result.at ≡ 0 }
+    {
+        Page { out, at: 0 }
     }
 }
 
-// a - b, and 0 where b is larger.
-fn less(a: usize, b: usize) -> usize
-    ensures { result ≡ a - b }
-{
-    if b <= a { a - b } else { 0 }
-}
-
-// The first digit of a number, with the filler before it.
-fn put_first(out: &mut [u8], at: usize, d: u64, width: usize, pad: u8) -> usize
-    requires { d < 16 }
-    ensures { Wrote out.old at (replicate (width - 1) pad ++ (digit d ∷ [])) out.new result }
-{
-    let a = put_times(out, at, pad, less(width, 1));
-    put_digit(out, a, d)
-}
-
-// x in a base, at least width bytes wide, with the filler pad before it.
-fn put_number(out: &mut [u8], at: usize, x: u64, base: u64, width: usize, pad: u8) -> usize
-    requires { (2 ≤ base) × (base ≤ 16) }
-    ensures { Wrote out.old at (pad_left width pad (digits base x)) out.new result }
-{
-    if x < base {
-        return put_first(out, at, x, width, pad);
+impl Page<'_> {
+    // One byte: it is stored if it fits, and it counts either way. The count stops at 2^64 - 1.
+    pub fn put(&mut self, b: u8)
+        ensures { Writes self.old (b ∷ []) self.new }
+    {
+        let at = self.at;
+        if at < self.out.len() {
+            self.out[at] = b;
+        }
+        self.at = at.saturating_add(1);
     }
-    let a = put_number(out, at, x / base, base, less(width, 1), pad);
-    put_digit(out, a, x % base)
-}
 
-// `{}`
-pub fn put_dec(out: &mut [u8], at: usize, x: u64) -> usize
-    ensures { Wrote out.old at (dec x) out.new result }
-{
-    put_number(out, at, x, 10, 0, 32)
-}
+    // The bytes of s, one after the other.
+    pub fn put_bytes(&mut self, s: &[u8])
+        ensures { Writes self.old s.now self.new }
+    {
+        for &b in s {
+            self.put(b);
+        }
+    }
 
-// `{:>width}`
-pub fn put_dec_right(out: &mut [u8], at: usize, x: u64, width: usize) -> usize
-    ensures { Wrote out.old at (dec_right width x) out.new result }
-{
-    put_number(out, at, x, 10, width, 32)
-}
+    // The byte b, n times.
+    pub fn put_times(&mut self, b: u8, n: usize)
+        ensures { Writes self.old (replicate n b) self.new }
+    {
+        for _ in 0..n {
+            self.put(b);
+        }
+    }
 
-// `{:0leastx}`
-pub fn put_hex(out: &mut [u8], at: usize, x: u64, least: usize) -> usize
-    ensures { Wrote out.old at (hex least x) out.new result }
-{
-    put_number(out, at, x, 16, least, 48)
-}
+    // The digit that stands for a number below 16.
+    fn put_digit(&mut self, d: u64)
+        requires { d < 16 }
+        ensures { Writes self.old (digit d ∷ []) self.new }
+    {
+        let zero = if d < 10 { b'0' } else { b'a' - 10 };
+        self.put(zero + (d as u8));
+    }
 
-// `{:<width}`
-pub fn put_left(out: &mut [u8], at: usize, s: &[u8], width: usize) -> usize
-    ensures { Wrote out.old at (pad_right width 32 s.now) out.new result }
-{
-    let a = put_bytes(out, at, s);
-    put_times(out, a, 32, less(width, s.len()))
-}
+    // x in a base, at least width bytes wide, with the filler pad before it.
+    fn put_number(&mut self, x: u64, base: u64, width: usize, pad: u8)
+        requires { (2 ≤ base) × (base ≤ 16) }
+        ensures { Writes self.old (pad_left width pad (digits base x)) self.new }
+    {
+        let before = width.saturating_sub(1);
+        if x < base {
+            self.put_times(pad, before);
+        } else {
+            self.put_number(x / base, base, before, pad);
+        }
+        self.put_digit(x % base);
+    }
 
-// The jth number, or 0 where there is none.
-fn at_or_zero(xs: &[u64], j: usize) -> u64
-    ensures { result ≡ get_or xs.now j 0 }
-{
-    if j < xs.len() { xs[j] } else { 0 }
+    // `{}`
+    pub fn put_dec(&mut self, x: u64)
+        ensures { Writes self.old (dec x) self.new }
+    {
+        self.put_number(x, 10, 0, b' ');
+    }
+
+    // `{:>width}`
+    pub fn put_dec_right(&mut self, x: u64, width: usize)
+        ensures { Writes self.old (dec_right width x) self.new }
+    {
+        self.put_number(x, 10, width, b' ');
+    }
+
+    // `{:0leastx}`
+    pub fn put_hex(&mut self, x: u64, least: usize)
+        ensures { Writes self.old (hex least x) self.new }
+    {
+        self.put_number(x, 16, least, b'0');
+    }
+
+    // `{:<width}`
+    pub fn put_left(&mut self, s: &[u8], width: usize)
+        ensures { Writes self.old (pad_right width 32 s.now) self.new }
+    {
+        self.put_bytes(s);
+        self.put_times(b' ', width.saturating_sub(s.len()));
+    }
+
+    // The text for a byte of a template.
+    fn put_piece(&mut self, b: u8, x: u64)
+        ensures { Writes self.old (piece b x) self.new }
+    {
+        match b {
+            b'%' => self.put_dec(x),
+            b'!' => self.put_dec_right(x, 10),
+            b'*' => self.put_hex(x, 0),
+            b'&' => self.put_hex(x, 2),
+            b'^' => self.put_hex(x, 4),
+            b'~' => self.put_hex(x, 8),
+            b'$' => self.put_hex(x, 10),
+            _ => self.put(b),
+        }
+    }
+
+    // The text of a template and numbers.
+    pub fn put_format(&mut self, t: &[u8], xs: &[u64])
+        ensures { Writes self.old (format t.now xs.now) self.new }
+    {
+        let mut j = 0;
+        for &b in t {
+            self.put_piece(b, xs.get(j).copied().unwrap_or(0));
+            j += takes_of(b);
+        }
+    }
+
+    // A signed number in decimal.
+    pub fn put_i16(&mut self, x: i16)
+        ensures { Writes self.old (dec_signed x) self.new }
+    {
+        if x < 0 {
+            self.put(b'-');
+        }
+        self.put_dec(u64::from(x.unsigned_abs()));
+    }
+
+    // A character; for one line, a space in place of a line feed.
+    fn put_char(&mut self, c: &[u8], one: bool)
+        ensures { Writes self.old (shown_all (flat one (char c.now ∷ []))) self.new }
+    {
+        if one && c == b"\n".as_slice() {
+            self.put(b' ');
+        } else {
+            self.put_bytes(c);
+        }
+    }
+
+    // The text, with U+FFFD for what is ill-formed; for one line, spaces in place of line feeds.
+    fn put_chunks(&mut self, text: &[u8], one: bool)
+        ensures { Writes self.old (shown_all (flat one (chunks text.now))) self.new }
+    {
+        for part in (Chunks { rest: text }) {
+            match part {
+                Chunk::Char(c) => self.put_char(c, one),
+                Chunk::Junk(_) => self.put_bytes(b"\xef\xbf\xbd"),
+            }
+        }
+    }
+
+    // The text, as `String::from_utf8_lossy` has it.
+    #[tactic(auto, unfolding(utf8::specs::Utf8::lossy))]
+    pub fn put_lossy(&mut self, text: &[u8])
+        ensures { Writes self.old (lossy text.now) self.new }
+    {
+        self.put_chunks(text, false);
+    }
+
+    // The first n characters of that text, and "..." where it has more; for one line, spaces in place of line feeds.
+    pub fn put_preview(&mut self, text: &[u8], n: usize, one: bool)
+        ensures { Writes self.old (preview n (flat one (chunks text.now))) self.new }
+    {
+        self.put_chunks(first_chars(text, n), one);
+        if n < count_chars(text) {
+            self.put_bytes(b"...");
+        }
+    }
 }
 
 // How many numbers a byte of a template takes.
 fn takes_of(b: u8) -> usize
-    ensures { (result ≡ takes b) × (result ≤ 1) }
+    ensures number { result ≡ takes b }
+    ensures bound { result ≤ 1 }
 {
-    if b == b'%' {
-        return 1;
-    }
-    if b == b'!' {
-        return 1;
-    }
-    if b == b'*' {
-        return 1;
-    }
-    if b == b'&' {
-        return 1;
-    }
-    if b == b'^' {
-        return 1;
-    }
-    if b == b'~' {
-        return 1;
-    }
-    if b == b'$' {
-        return 1;
-    }
-    0
-}
-
-// The text for a byte of a template.
-fn put_piece(out: &mut [u8], at: usize, b: u8, x: u64) -> usize
-    ensures { Wrote out.old at (piece b x) out.new result }
-{
-    if b == b'%' {
-        return put_dec(out, at, x);
-    }
-    if b == b'!' {
-        return put_dec_right(out, at, x, 10);
-    }
-    if b == b'*' {
-        return put_hex(out, at, x, 0);
-    }
-    if b == b'&' {
-        return put_hex(out, at, x, 2);
-    }
-    if b == b'^' {
-        return put_hex(out, at, x, 4);
-    }
-    if b == b'~' {
-        return put_hex(out, at, x, 8);
-    }
-    if b == b'$' {
-        return put_hex(out, at, x, 10);
-    }
-    put(out, at, b)
-}
-
-// The text of a template and numbers.
-pub fn put_format(out: &mut [u8], at: usize, t: &[u8], xs: &[u64]) -> usize
-    ensures { Wrote out.old at (format t.now xs.now) out.new result }
-{
-    let mut a = at;
-    let mut i = 0;
-    let mut j = 0;
-    while i < t.len() {
-        let b = t[i];
-        a = put_piece(out, a, b, at_or_zero(xs, j));
-        j += takes_of(b);
-        i += 1;
-    }
-    a
-}
-
-// -1 - x, which swaps n and -(n + 1).
-fn swap16(x: i16) -> i16
-    ensures { result ≡ negsuc 0 -ℤ x }
-{
-    -1 - x
+    usize::from(matches!(b, b'%' | b'!' | b'*' | b'&' | b'^' | b'~' | b'$'))
 }
 
 // The number whose 16 bits are those of u, the highest one its sign.
 pub fn signed16(u: u16) -> i16
     ensures { result ≡ i16_of u }
 {
-    if u < 0x8000 {
-        u as i16
-    } else {
-        swap16((0xffff - u) as i16)
-    }
-}
-
-// n, of -(n + 1).
-fn below_zero(x: i16) -> u64
-    requires { T (lt_z x (pos 0)) }
-    ensures { (x ≡ negsuc result) × (result < 0x8000) }
-{
-    swap16(x) as u64
-}
-
-// n, of n.
-fn from_zero(x: i16) -> u64
-    requires { lt_z x (pos 0) ≡ false }
-    ensures { x ≡ pos result }
-{
-    x as u64
-}
-
-// A signed number in decimal.
-pub fn put_i16(out: &mut [u8], at: usize, x: i16) -> usize
-    ensures { Wrote out.old at (dec_signed x) out.new result }
-{
-    if x < 0 {
-        let a = put(out, at, b'-');
-        put_dec(out, a, below_zero(x) + 1)
-    } else {
-        put_dec(out, at, from_zero(x))
-    }
-}
-
-// The character that s has from `from` up to `end`; for one line, a space in place of a line feed.
-fn put_char(out: &mut [u8], at: usize, s: &[u8], from: usize, end: usize, one: bool) -> usize
-    requires { (from ≤ end) × (end ≤ length s.now) }
-    ensures { Wrote out.old at (shown_all (flat one (char (slice from end s.now) ∷ []))) out.new result }
-{
-    if end - from != 1 {
-        return put_part(out, at, s, from, end);
-    }
-    let b = s[from];
-    if b != b'\n' {
-        return put(out, at, b);
-    }
-    if one {
-        return put(out, at, b' ');
-    }
-    put(out, at, b)
-}
-
-// U+FFFD.
-fn put_mark(out: &mut [u8], at: usize) -> usize
-    ensures { Wrote out.old at (0xef ∷ 0xbf ∷ 0xbd ∷ []) out.new result }
-{
-    put_bytes(out, at, b"\xef\xbf\xbd")
-}
-
-// The text that s has from `from` up to `end`, with U+FFFD for what is ill-formed; for one line, spaces in place of line
-// feeds.
-fn put_chunks(out: &mut [u8], at: usize, s: &[u8], from: usize, end: usize, one: bool) -> usize
-    requires { (from ≤ end) × (end ≤ length s.now) }
-    ensures { Wrote out.old at (shown_all (flat one (chunks (slice from end s.now)))) out.new result }
-{
-    let mut a = at;
-    let mut i = from;
-    while i < end {
-        match step_at(s, i, end) {
-            Step::Char(n) => {
-                a = put_char(out, a, s, i, i + n, one);
-                i += n;
-            }
-            Step::Junk(n) => {
-                a = put_mark(out, a);
-                i += n;
-            }
-        }
-    }
-    a
-}
-
-// The text that s has from `from` up to `end`, as `String::from_utf8_lossy` has it.
-pub fn put_lossy(out: &mut [u8], at: usize, s: &[u8], from: usize, end: usize) -> usize
-    requires { (from ≤ end) × (end ≤ length s.now) }
-    ensures { Wrote out.old at (lossy (slice from end s.now)) out.new result }
-{
-    put_chunks(out, at, s, from, end, false)
+    u.cast_signed()
 }
 
 // How many bytes put_lossy writes; at most 2^64 - 1.
-pub fn lossy_len(s: &[u8], from: usize, end: usize) -> u64
-    requires { (from ≤ end) × (end ≤ length s.now) }
-    ensures { result ≡ min (length (lossy (slice from end s.now))) (2 ^ 64 - 1) }
+pub fn lossy_len(text: &[u8]) -> u64
+    ensures { result ≡ min (length (lossy text.now)) (2 ^ 64 - 1) }
 {
-    let mut none = [0; 1];
-    put_lossy(&mut none, 0, s, from, end) as u64
-}
-
-// The first n characters of that text, and "..." where it has more; for one line, spaces in place of line feeds.
-pub fn put_preview(
-    out: &mut [u8],
-    at: usize,
-    s: &[u8],
-    from: usize,
-    end: usize,
-    n: usize,
-    one: bool,
-) -> usize
-    requires { (from ≤ end) × (end ≤ length s.now) }
-    ensures { Wrote out.old at (preview n (flat one (chunks (slice from end s.now)))) out.new result }
-{
-    if count_chars(s, from, end) <= n {
-        return put_chunks(out, at, s, from, end, one);
-    }
-    let stop = chars_end(s, from, end, n);
-    let a = put_chunks(out, at, s, from, stop, one);
-    put_bytes(out, a, b"...")
+    let mut none = [];
+    let mut page = Page::new(&mut none);
+    page.put_lossy(text);
+    page.at as u64
 }

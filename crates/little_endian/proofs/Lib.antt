@@ -1,3 +1,2 @@
 -- Laws of little-endian numbers.
-pub mod Halves
-pub mod Signed
+pub mod Sums

@@ -2,8 +2,8 @@
 pub mod Rules
 pub mod Slices
 pub mod Steps
-pub mod Chunks
-pub mod Ranges
+pub mod Decoding
 pub mod Trimming
+pub mod White
+pub mod Ends
 pub mod Nul
-pub mod NulEnds

@@ -17,8 +17,8 @@ use Rattle.utf8.specs.Utf8.{lead_of, trailing, after_lead, step_of, width_of, Ch
 use Rattle.utf8.specs.White.{keep, drop_end}
 use Rattle.utf8.specs.Nul.{is_nul, trim_end_nuls, trim_start_nuls, trim_nuls}
 use Rattle.utf8.proofs.Steps.{after_width}
-use Rattle.utf8.proofs.Chunks.{shown_append}
-use Rattle.utf8.proofs.Trimming.{drop_end_pass}
+use Rattle.utf8.proofs.Decoding.{shown_append}
+use Rattle.utf8.proofs.Ends.{drop_end_pass}
 
 -- a second byte is never 0
 abbrev Above0 : Lead → Type 0

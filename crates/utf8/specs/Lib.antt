@@ -2,4 +2,4 @@
 pub mod Utf8
 pub mod White
 pub mod Nul
-pub mod Part
+pub mod Parts

@@ -1,7 +1,7 @@
--- `fmt::lossy_len` meets its contract. Assumes nothing.
-use native.Mathlib.Omega.{arith}
+-- The count of what is written to no output.
+use Rattle.std.proofs.Common.{arith}
 use Rattle.fmt.proofs.Room.{counted}
 use Rattle.fmt.proofs.lossy_len.Goals as goal
 
 pub returns : goal.returns
-returns c = omega (arith, counted (omega arith) c.put_lossy.ensures)
+returns c = omega (arith, counted (omega arith) c.put_lossy.ensures.wrote)

@@ -1,16 +1,13 @@
--- There is no NUL up to i (`Passed`).
-use native.Mathlib.Omega.{arith}
-use Rattle.utf8.proofs.NulEnds.{passed_start, passed_end, passed_nul, passed_other}
+-- The text ends before the first NUL, or where it ends itself.
+use Rattle.std.proofs.Common.{rules, eqb}
+use borrow.Author.Tests.{tests}
+use Rattle.std.proofs.lemmas.Iterator.{YieldsList-from_slice}
+use Rattle.std.proofs.lemmas.Iterator.Search.{position_from_yields_List}
+use Rattle.utf8.proofs.Ends.{before_front, found_or_end}
 use Rattle.utf8.proofs.before_nul.Goals as goal
 
-pub loop-i-init : goal.loop-i-init
-loop-i-init c = passed_start c.args.s.now c.args.at c.args.end (omega arith)
-
-pub returns-then-s-i-eq0 : goal.returns-then-s-i-eq0
-returns-then-s-i-eq0 c = passed_nul c.loop-i.invariant (omega arith) (omega arith) c.if-s-i-eq0.true
-
-pub loop-i-preserved : goal.loop-i-preserved
-loop-i-preserved c = passed_other c.loop-i.invariant (omega arith) (omega arith) c.if-s-i-eq0.false
-
-pub returns : goal.returns
-returns c = passed_end c.loop-i.invariant (omega arith)
+pub returns-clause-before : goal.returns-clause-before
+returns-clause-before c =
+    let s = c.args.text.now in
+    let found = position_from_yields_List (λ b. eqb b 0) _ _ c.position.result c.position.ensures.ran (YieldsList-from_slice s (cc)) (λ x b q k. search (rules, tests)) in
+    rw (c.unwrap_or-end.ensures, found, found_or_end (λ b. eqb b 0) s) (before_front s)

@@ -1,43 +1,17 @@
--- The loop has counted n bytes, and what is counted from there on is the rest of the whole.
-use native.Mathlib.Nat.{add-zero, zero-add, sub-zero}
-use Prim.Native.Nat.{◌+◌, ◌-◌}
-use mathlib.Core.Path.{◌≡◌}
-use native.Mathlib.Omega.{arith}
-use lib.Seq.{slice}
-use Rattle.utf8.proofs.Rules.{tests}
-use Rattle.utf8.proofs.Steps.{trailing_end, trailing_none, trailing_turn, trailing_halt}
+-- The count is of the bytes from the front on that pass.
+use Rattle.std.proofs.Common.{rules, ◌∙◌}
+use borrow.Author.Tests.{tests}
+use Rattle.std.proofs.lemmas.Iterator.{YieldsList-from_slice, YieldsList-from_take}
+use Rattle.std.proofs.lemmas.Iterator.Consumers.{YieldsList-at, count_from_yields_List}
+use Rattle.std.proofs.lemmas.Iterator.Search.{YieldsList-from_take_while}
+use Rattle.utf8.specs.Utf8.{between}
+use Rattle.utf8.proofs.Ends.{trailing_counts}
 use Rattle.utf8.proofs.trail.Goals as goal
 
-pub loop-n-init : goal.loop-n-init
-loop-n-init c = (omega arith, omega arith, simp (add-zero, zero-add, sub-zero))
-
-pub returns-then-end-at : goal.returns-then-end-at
-returns-then-end-at c =
-    let a = c.args in
-    let n = c.loop-n.n in
-    omega (arith, trailing_end (a.more - n) (a.at + n) a.end a.s.now (omega arith))
-
-pub returns-then-b-lt128 : goal.returns-then-b-lt128
-returns-then-b-lt128 c =
-    let a = c.args in
-    let n = c.loop-n.n in
-    omega (arith, trailing_halt a.s.now a.at a.end a.more n (omega arith) (omega arith) (omega arith) (search tests))
-
-pub returns-then-b-gt191 : goal.returns-then-b-gt191
-returns-then-b-gt191 c =
-    let a = c.args in
-    let n = c.loop-n.n in
-    omega (arith, trailing_halt a.s.now a.at a.end a.more n (omega arith) (omega arith) (omega arith) (search tests))
-
-pub loop-n-preserved : goal.loop-n-preserved
-loop-n-preserved c =
-    let a = c.args in
-    let n = c.loop-n.n in
-    omega (arith, trailing_turn a.s.now a.at a.end a.more n (omega arith) (omega arith) (omega arith) (search tests))
-
-pub returns : goal.returns
-returns c =
-    let a = c.args in
-    let n = c.loop-n.n in
-    let e : a.more - n ≡ 0 = omega arith in
-    omega (arith, rw e at c.loop-n.invariant.2, trailing_none (slice (a.at + n) a.end a.s.now))
+pub returns-clause-count : goal.returns-clause-count
+returns-clause-count c =
+    let s = c.args.text.now in
+    let w = c.take_while.ensures in
+    let road = YieldsList-at w.source (YieldsList-from_take c.args.more (YieldsList-at c.take.ensures.source (YieldsList-from_slice s (cc))) (cc)) in
+    count_from_yields_List _ _ c.count.ensures.ran (YieldsList-from_take_while _ (λ b. between 0x80 0xbf b) road w.closure w.done (λ x b q k. search (rules, tests)))
+    ∙ trailing_counts c.args.more s

@@ -1,11 +1,12 @@
 -- The end is trimmed of what is left once the start is.
-use mathlib.Core.Path.{ap, ◌∙◌}
+use Rattle.std.proofs.Common.{ap, ◌∙◌}
 use Rattle.utf8.specs.White.{trim_end, trim}
+use Rattle.utf8.proofs.Slices.{part_of}
 use Rattle.utf8.proofs.trim.Goals as goal
 
-pub returns : goal.returns
+pub returns-clause-part : goal.returns-clause-part
+returns-clause-part c = part_of c.trim_end.ensures.front c.trim_start.ensures.back
+
+pub returns-clause-trimmed : goal.returns-clause-trimmed
 unfolding trim
-returns c =
-    let a = c.trim_start-from.ensures in
-    let b = c.trim_end-to.ensures in
-    record { low = a.low; order = b.low; high = b.high; text = b.text ∙ ap trim_end a.text }
+returns-clause-trimmed c = c.trim_end.ensures.trimmed ∙ ap trim_end c.trim_start.ensures.trimmed

@@ -1,54 +1,26 @@
--- The loop goes forward and remembers where the last part that is not white ended (`Walked`).
-use mathlib.Core.Path.{sym, ◌∙◌}
-use native.Mathlib.Omega.{arith}
-use lib.Seq.{slice}
-use borrow.Author.Tests.{not-true, not-false}
-use Rattle.utf8.specs.Utf8.{first_chunk}
-use Rattle.utf8.proofs.Chunks.{Stepped, on_look}
-use Rattle.utf8.proofs.Trimming.{walked_start, walked_white, walked_black, walked_done}
+-- The loop goes through all parts (`Passed`) and remembers where the last one that is not white ended.
+use Rattle.std.proofs.Common.{arith, ap, length, sym, ◌∙◌}
+use Rattle.utf8.proofs.Decoding.{size, passed_none, passed_more, passed_fits}
+use Rattle.utf8.proofs.Trimming.{end_none, end_white, end_other, ended}
 use Rattle.utf8.proofs.trim_end.Goals as goal
 
-pub loop-i-init : goal.loop-i-init
-loop-i-init c = walked_start c.args.s.now c.args.at c.args.end (omega arith)
+pub loop-part-init : goal.loop-part-init
+loop-part-init c = rw c.into_iter-part-iterator.ensures.into_iter_gives (passed_none c.args.text.now, omega arith, sym end_none)
 
-pub overflow_add-i : goal.overflow_add-i
-overflow_add-i c =
-    let stepped : let a = c.args in let i = c.loop-i.i in Stepped a.s.now i a.end c.look-seen.result.width (first_chunk (slice i a.end a.s.now)) =
-    let a = c.args in
-    rw c.look-seen.ensures.0 (on_look a.s.now c.loop-i.i a.end (omega arith) (omega arith)) in
-    omega (arith, stepped)
+pub overflow_add-at : goal.overflow_add-at
+overflow_add-at c = let h = passed_fits c.loop-part.invariant.0 c.in-Some.part c.in-Some.ensures.steps (ap length c.bytes.ensures) in omega arith
 
-pub loop-i-smaller-then-not-seen : goal.loop-i-smaller-then-not-seen
-loop-i-smaller-then-not-seen c =
-    let stepped : let a = c.args in let i = c.loop-i.i in Stepped a.s.now i a.end c.look-seen.result.width (first_chunk (slice i a.end a.s.now)) =
-    let a = c.args in
-    rw c.look-seen.ensures.0 (on_look a.s.now c.loop-i.i a.end (omega arith) (omega arith)) in
-    omega (arith, stepped)
+pub loop-part-preserved-then-not-is_white : goal.loop-part-preserved-then-not-is_white
+loop-part-preserved-then-not-is_white c =
+    let p = passed_more c.loop-part.invariant.0 c.in-Some.part c.in-Some.ensures.steps (ap length c.bytes.ensures) in
+    (p, omega arith, p.place ∙ ap size (sym (end_other c.loop-part.yielded c.in-Some.part c.if-not-is_white.ensures)))
 
-pub loop-i-preserved-then-not-seen : goal.loop-i-preserved-then-not-seen
-loop-i-preserved-then-not-seen c =
-    let stepped : let a = c.args in let i = c.loop-i.i in Stepped a.s.now i a.end c.look-seen.result.width (first_chunk (slice i a.end a.s.now)) =
-    let a = c.args in
-    rw c.look-seen.ensures.0 (on_look a.s.now c.loop-i.i a.end (omega arith) (omega arith)) in
-    let g = c.look-seen in
-    walked_black c.loop-i.invariant stepped
-    (sym g.ensures.1 ∙ not-true g.result.white c.if-not-seen.true)
+pub loop-part-preserved : goal.loop-part-preserved
+loop-part-preserved c = (
+  passed_more c.loop-part.invariant.0 c.in-Some.part c.in-Some.ensures.steps (ap length c.bytes.ensures),
+  omega arith,
+  c.loop-part.invariant.2 ∙ ap size (sym (end_white c.loop-part.yielded c.in-Some.part c.if-not-is_white.ensures)),
+)
 
-pub loop-i-smaller : goal.loop-i-smaller
-loop-i-smaller c =
-    let stepped : let a = c.args in let i = c.loop-i.i in Stepped a.s.now i a.end c.look-seen.result.width (first_chunk (slice i a.end a.s.now)) =
-    let a = c.args in
-    rw c.look-seen.ensures.0 (on_look a.s.now c.loop-i.i a.end (omega arith) (omega arith)) in
-    omega (arith, stepped)
-
-pub loop-i-preserved : goal.loop-i-preserved
-loop-i-preserved c =
-    let stepped : let a = c.args in let i = c.loop-i.i in Stepped a.s.now i a.end c.look-seen.result.width (first_chunk (slice i a.end a.s.now)) =
-    let a = c.args in
-    rw c.look-seen.ensures.0 (on_look a.s.now c.loop-i.i a.end (omega arith) (omega arith)) in
-    let g = c.look-seen in
-    walked_white c.loop-i.invariant stepped
-    (sym g.ensures.1 ∙ not-false g.result.white c.if-not-seen.false)
-
-pub returns : goal.returns
-returns c = walked_done c.loop-i.invariant (omega arith)
+pub returns-clause-trimmed : goal.returns-clause-trimmed
+returns-clause-trimmed c = ended c.loop-part.invariant.0 c.in-None.ensures.steps.0 c.loop-part.invariant.2

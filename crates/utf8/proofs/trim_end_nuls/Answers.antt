@@ -1,27 +1,17 @@
--- What is left of the text up to i is what is left of the whole.
-use mathlib.Core.Path.{sym, ◌∙◌}
-use native.Mathlib.Omega.{arith}
-use Rattle.utf8.proofs.NulEnds.{end_nul, end_other, end_past}
+-- The NULs from the end back are counted.
+use Rattle.std.proofs.Common.{rules, eqb}
+use borrow.Author.Tests.{tests}
+use Rattle.std.proofs.lemmas.Iterator.Adapters.{YieldsList-from_rev_slice}
+use Rattle.std.proofs.lemmas.Iterator.Consumers.{YieldsList-at, count_from_yields_List}
+use Rattle.std.proofs.lemmas.Iterator.Search.{YieldsList-from_take_while}
+use Rattle.std.proofs.lemmas.List.Folds.{length-prefix_len}
+use Rattle.utf8.proofs.Ends.{end_front}
 use Rattle.utf8.proofs.trim_end_nuls.Goals as goal
 
-pub returns-then-s-last-ne0 : goal.returns-then-s-last-ne0
-returns-then-s-last-ne0 c =
-    let a = c.args in
-    let l = c.loop-i in
-    record {
-      low = omega arith;
-      high = omega arith;
-      text = sym (end_other a.s.now a.at l.i (omega arith) (omega arith) c.if-s-last-ne0.true) ∙ l.invariant.2;
-    }
-
-pub loop-i-preserved : goal.loop-i-preserved
-loop-i-preserved c =
-    let a = c.args in
-    let l = c.loop-i in
-    (omega arith, omega arith, sym (end_nul a.s.now a.at l.i (omega arith) (omega arith) c.if-s-last-ne0.false) ∙ l.invariant.2)
-
-pub returns : goal.returns
-returns c =
-    let a = c.args in
-    let l = c.loop-i in
-    record { low = omega arith; high = omega arith; text = sym (end_past a.s.now a.at l.i (omega arith)) ∙ l.invariant.2 }
+pub returns-clause-trimmed : goal.returns-clause-trimmed
+returns-clause-trimmed c =
+    let s = c.args.text.now in
+    let w = c.take_while.ensures in
+    let counted = count_from_yields_List _ _ c.count-nuls.ensures.ran
+    (YieldsList-from_take_while _ (λ b. eqb b 0) (YieldsList-at w.source (YieldsList-from_rev_slice s (cc))) w.closure w.done (λ x b q k. search (rules, tests))) in
+    rw (counted, length-prefix_len) (end_front s)

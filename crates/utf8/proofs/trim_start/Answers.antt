@@ -1,57 +1,25 @@
--- What is left of the text from i on is what is left of the whole.
-use mathlib.Core.Path.{sym, ◌∙◌}
-use native.Mathlib.Omega.{arith}
-use lib.Seq.{slice}
-use borrow.Author.Tests.{not-true, not-false}
-use Rattle.utf8.specs.Utf8.{first_chunk}
-use Rattle.utf8.proofs.Chunks.{Stepped, on_look}
-use Rattle.utf8.proofs.Trimming.{start_white, start_stop, start_none}
+-- The parts up to the first that is not white are passed (`Passed`).
+use Rattle.std.proofs.Common.{arith, refl, ap, length}
+use Rattle.std.proofs.lemmas.List.{take_rest}
+use Rattle.utf8.proofs.Decoding.{passed_none, passed_back, passed_more, passed_fits}
+use Rattle.utf8.proofs.Trimming.{start_white, start_other, start_none}
+use Rattle.utf8.proofs.trim_start.Goals.{in-None, in-Some+then-not-is_white}
 use Rattle.utf8.proofs.trim_start.Goals as goal
 
-pub returns-then-not-seen : goal.returns-then-not-seen
-returns-then-not-seen c =
-    let stepped : let a = c.args in let i = c.loop-i.i in Stepped a.s.now i a.end c.look-seen.result.width (first_chunk (slice i a.end a.s.now)) =
-    let a = c.args in
-    rw c.look-seen.ensures.0 (on_look a.s.now c.loop-i.i a.end (omega arith) (omega arith)) in
-    let g = c.look-seen in
-    let l = c.loop-i in
-    record {
-      low = omega arith;
-      high = omega arith;
-      text = sym (start_stop stepped (sym g.ensures.1 ∙ not-true g.result.white c.if-not-seen.true)) ∙ l.invariant.2;
-    }
+pub loop-part-init : goal.loop-part-init
+loop-part-init c = rw c.into_iter-part-iterator.ensures.into_iter_gives (passed_none c.args.text.now, refl)
 
-pub overflow_add-i : goal.overflow_add-i
-overflow_add-i c =
-    let stepped : let a = c.args in let i = c.loop-i.i in Stepped a.s.now i a.end c.look-seen.result.width (first_chunk (slice i a.end a.s.now)) =
-    let a = c.args in
-    rw c.look-seen.ensures.0 (on_look a.s.now c.loop-i.i a.end (omega arith) (omega arith)) in
-    omega (arith, stepped)
+pub overflow_add-start : goal.overflow_add-start
+overflow_add-start c = let h = passed_fits c.loop-part.invariant.0 c.in-Some.part c.in-Some.ensures.steps (ap length c.bytes.ensures) in omega arith
 
-pub loop-i-smaller : goal.loop-i-smaller
-loop-i-smaller c =
-    let stepped : let a = c.args in let i = c.loop-i.i in Stepped a.s.now i a.end c.look-seen.result.width (first_chunk (slice i a.end a.s.now)) =
-    let a = c.args in
-    rw c.look-seen.ensures.0 (on_look a.s.now c.loop-i.i a.end (omega arith) (omega arith)) in
-    omega (arith, stepped)
+pub loop-part-preserved : goal.loop-part-preserved
+loop-part-preserved c =
+    (passed_more c.loop-part.invariant.0 c.in-Some.part c.in-Some.ensures.steps (ap length c.bytes.ensures), start_white c.loop-part.invariant.1 c.in-Some.ensures.steps c.if-not-is_white.ensures)
 
-pub loop-i-preserved : goal.loop-i-preserved
-loop-i-preserved c =
-    let stepped : let a = c.args in let i = c.loop-i.i in Stepped a.s.now i a.end c.look-seen.result.width (first_chunk (slice i a.end a.s.now)) =
-    let a = c.args in
-    rw c.look-seen.ensures.0 (on_look a.s.now c.loop-i.i a.end (omega arith) (omega arith)) in
-    let g = c.look-seen in
-    let p = stepped in (
-      omega (arith, p),
-      omega (arith, p),
-      sym (start_white p (sym g.ensures.1 ∙ not-false g.result.white c.if-not-seen.false)) ∙ c.loop-i.invariant.2,
-    )
-
-pub returns : goal.returns
-returns c =
-    let a = c.args in
-    record {
-      low = omega arith;
-      high = omega arith;
-      text = sym (start_none a.s.now c.loop-i.i a.end (omega arith)) ∙ c.loop-i.invariant.2;
-    }
+pub returns-clause-trimmed : goal.returns-clause-trimmed
+returns-clause-trimmed c =
+    rw (take_rest, passed_back c.loop-part.invariant.0)
+    (elim c.match-next.branch [
+      | in-None w ↦ start_none c.loop-part.invariant.1 w.in-None.ensures.steps.0
+      | in-Some+then-not-is_white w ↦ start_other c.loop-part.invariant.1 w.in-Some.ensures.steps w.if-not-is_white.ensures
+    ])
