@@ -1,36 +1,24 @@
--- The fields of a data list, one by one, and its length tests.
+-- The length tests of a data list.
 use mathlib.Core.Path.{◌≡◌, refl, sym, ap, ◌∙◌}
 use mathlib.Core.Bool.{Bool, true, false, cond}
 use mathlib.Core.List.{List}
-use Prim.Native.Nat.{ℕ, ◌+◌, ◌-◌, ◌*◌, ◌%◌, ◌≤◌, ◌<◌}
+use Prim.Native.Nat.{ℕ, ◌+◌, ◌*◌, ◌%◌, ◌≤◌, ◌<◌}
 use native.Mathlib.Omega.{arith}
 use lib.Dec.{eqb}
-use lib.ListN.{length, take, drop}
+use lib.ListN.{length}
 use borrow.Author.Tests.{leb-true, le-leb, lt-leb, eq-eqb}
 use Rattle.mdf4.specs.Bytes.{bytes, num}
 use Rattle.mdf4.specs.Act.{Refusal, Out, ok, err, refusal, and_then, DL}
-use Rattle.mdf4.specs.Kinds.{shape, is, block_len, links_nr, data_at, header_ok, rest, read_len}
-use Rattle.mdf4.proofs.Fields.{part_bytes, num_bytes}
+use Rattle.mdf4.specs.Kinds.{shape, is, links_nr, data_at, header_ok, rest, read_len}
+use Rattle.mdf4.proofs.Fields.{num_bytes}
 use Rattle.blocks.specs.declared.common.BlockHeader.{BlockHeader}
 use Rattle.blocks.specs.declared.data_list_block.DataListBlock.{DataListBlock}
 use Rattle.blocks.specs.Headers.{inside_or}
-use Rattle.blocks.specs.Parse.{parsed}
+use Rattle.blocks.specs.Parse.{parsed, IsOwn}
 use Rattle.blocks.specs.Extents.{need_or}
 use Rattle.blocks.specs.DataListBlock.{data_list_block_of, behind_links, ListFits}
 use Rattle.blocks.proofs.Extents.{headed, unmarked_headed, found, header_refused, by_needs, needs_or, need_ok, own, own_of}
 use Rattle.blocks.proofs.Parse.{parsed_ok}
-
-pub data_list_block_is : (o : List ℕ) {n f x0 x1 x2 x3 : ℕ}
-    → n ≡ num o 16 8 → f ≡ num o (24 + 8 * n) 1 → x0 ≡ num o 8 8 → x1 ≡ num o 24 8 → x2 ≡ num o (24 + 8 * n + 4) 4 → x3 ≡ cond (eqb (f % 2) 1) (num o (24 + 8 * n + 8) 8) 0
-    → ◌≡◌ {A = DataListBlock} (record { block_len = x0; links_nr = n; next = x1; flags = f; data_block_nr = x2; data_block_len = x3 }) (data_list_block_of o)
-unfolding data_list_block_of block_len links_nr data_at
-data_list_block_is o en ef e0 e1 e2 e3 = rw (e0, e1, e2, e3, ef, en)
-
--- the equal length stands behind the count
-pub equal_there : (o : List ℕ) {n f : ℕ} → ListFits o → n ≡ num o 16 8 → f ≡ num o (24 + 8 * n) 1 → f % 2 ≡ 1 → 24 + 8 * n + 8 + 8 ≤ length o
-equal_there o t en ef p =
-    let z : num o (24 + 8 * num o 16 8) 1 % 2 ≡ 1 = rw (ef, en) at p in
-    omega (arith, t.equal z, en)
 
 pub dl_headed : (r : List ℕ) (a : ℕ) → inside_or r a 24 ≡ headed DL r a
 unfolding shape
@@ -74,36 +62,35 @@ module _ (r : List ℕ) (a : ℕ) {h : BlockHeader} (e : ok h ≡ headed DL r a)
       let s : 32 + 8 * n ≡ 24 + 8 * n + 8 = omega arith in
       by_needs DL r a e (le-leb 1 (links_nr (bytes r a 24)) (omega (arith, l)))
       (rw (p, ← l, s) (same_then (need_or (length r) a (24 + 8 * n + 8)) _ _ (λ m q.
-      rw ((need_ok (length r) a (24 + 8 * n + 8) q).1, rest_is r a n links_is))))
+      rw ((need_ok q).is, rest_is r a n links_is))))
 
 -- the fields stand in a block's own bytes
-pub dl_fits : (r : List ℕ) (a n : ℕ) → ok n ≡ parsed length DL r a → ListFits (take (a + n - a) (drop a r))
+pub dl_fits : {o : List ℕ} → IsOwn DL o → ListFits o
 unfolding read_len header_ok is shape data_at links_nr
-dl_fits r a n e =
-    let o = own DL r a e in
+dl_fits {o} x =
+    let w = own x in
+    let r : List ℕ = x.recording in
+    let a : ℕ = x.at in
     let k : ℕ = num (bytes r a 24) 16 8 in
-    let z : n ≡ 24 + 8 * k + 8 + rest DL (bytes r a (24 + 8 * k + 8)) = o.len in
+    let z : length o ≡ 24 + 8 * k + 8 + rest DL (bytes r a (24 + 8 * k + 8)) = w.len in
     let t : rest DL (bytes r a (24 + 8 * k + 8)) ≡ 8 * cond (eqb (num r (a + 24 + 8 * k) 1 % 2) 1) 1 (num r (a + 24 + 8 * k + 4) 4) = rest_is r a k (num_bytes r a 24 16 8 (omega arith)) in
-    let s : 1 ≤ k = leb-true 1 k o.sound in
+    let s : 1 ≤ k = leb-true 1 k w.sound in
     let p : a + (24 + 8 * k) ≡ a + 24 + 8 * k = omega arith in
-    let f : num (bytes r a n) (24 + 8 * k) 1 ≡ num r (a + 24 + 8 * k) 1 = num_bytes r a n (24 + 8 * k) 1 (omega (arith, z)) ∙ ap (λ (m : ℕ). num r m 1) p in
-    let u : num r (a + 24 + 8 * k) 1 % 2 ≡ 1 → 24 + 8 * k + 16 ≤ n =
+    let f : num o (24 + 8 * k) 1 ≡ num r (a + 24 + 8 * k) 1 =
+    ap (λ y. num y (24 + 8 * k) 1) w.is ∙ num_bytes r a (length o) (24 + 8 * k) 1 (omega (arith, z)) ∙ ap (λ (m : ℕ). num r m 1) p in
+    let u : num r (a + 24 + 8 * k) 1 % 2 ≡ 1 → 24 + 8 * k + 16 ≤ length o =
     λ b. let c : rest DL (bytes r a (24 + 8 * k + 8)) ≡ 8 * 1 = rw (eq-eqb _ 1 b) at t in omega (arith, z, c) in
-    rw (part_bytes r a n) (record { next = omega (arith, z, s, o.size); flags = omega (arith, z, o.links, o.size); equal = rw (o.links, f, o.size) u })
+    record { next = omega (arith, z, s); flags = omega (arith, z, w.links); equal = rw (w.links, f) u }
 
 -- a link of a block that was parsed can be read
 pub link_inside : (r : List ℕ) (a i : ℕ) {b : DataListBlock} → parsed data_list_block_of DL r a ≡ ok b → i < b.links_nr → a + 24 + 8 * i + 8 ≤ length r
 unfolding read_len shape data_at data_list_block_of links_nr
 link_inside r a i {b = b} e l =
     let p = parsed_ok data_list_block_of DL r a e in
-    let o : List ℕ = p.0 in
     let w = own_of DL r a p.1 in
-    let q : ◌≡◌ {A = Out (List ℕ)} (ok o) (ok (bytes r a (length o))) = sym p.1 ∙ w.read in
-    let s : o ≡ bytes r a (length o) = cc in
-    let n : b.links_nr ≡ num o 16 8 = ap (λ x. x.links_nr) (sym p.2) in
-    let m : num o 16 8 ≡ num (bytes r a (length o)) 16 8 = ap (λ x. num x 16 8) s in
-    let z : length o ≡ 24 + 8 * num (bytes r a 24) 16 8 + 8 + rest DL (bytes r a (24 + 8 * num (bytes r a 24) 16 8 + 8)) = w.len in
-    omega (arith, l, n, m, w.links, z, w.inside)
+    let n : b.links_nr ≡ num p.0 16 8 = ap (λ x. x.links_nr) (sym p.2) in
+    let z : length p.0 ≡ 24 + 8 * num (bytes r a 24) 16 8 + 8 + rest DL (bytes r a (24 + 8 * num (bytes r a 24) 16 8 + 8)) = w.len in
+    omega (arith, l, n, w.links, z, w.inside)
 
 -- The code's two length tests
 

@@ -3,11 +3,11 @@
 use mathlib.Core.Path.{◌≡◌, refl, sym, ap, ◌∙◌}
 use mathlib.Core.Bool.{Bool, true, false, not, ◌||◌}
 use mathlib.Core.List.{List}
-use Prim.Native.Nat.{ℕ, ◌+◌, ◌-◌, ◌^◌, ◌≤◌, ◌<◌, min}
+use Prim.Native.Nat.{ℕ, ◌+◌, ◌-◌, ◌≤◌, min}
 use native.Mathlib.Omega.{arith}
 use lib.Dec.{leb, eqb}
 use lib.ListN.{length, take, drop, length-take, length-drop}
-use borrow.Author.Tests.{leb-true, le-leb, lt-leb}
+use borrow.Author.Tests.{leb-true, le-leb}
 use Rattle.mdf4.specs.Bytes.{bytes, num}
 use Rattle.mdf4.specs.Act.{Refusal, Out, ok, err, refusal, and_then, check, Kind}
 use Rattle.mdf4.specs.Kinds.{shape, block_len, links_nr, header_ok, rest, read_len, read_of, read_block, u64_max}
@@ -15,32 +15,27 @@ use Rattle.mdf4.proofs.Results.{never, check_ok}
 use Rattle.mdf4.proofs.Fields.{part_bytes, num_bytes}
 use Rattle.mdf4.proofs.Reading.{read_is, read_whole, need_least}
 use Rattle.blocks.specs.declared.common.BlockHeader.{BlockHeader}
-use Rattle.blocks.specs.declared.extent.Extent.{Extent}
 use Rattle.blocks.specs.Headers.{header_of, inside_or, marked_or}
-use Rattle.blocks.specs.Parse.{parsed}
-use Rattle.blocks.specs.Extents.{extent_read, need_or}
+use Rattle.blocks.specs.Parse.{parsed, IsOwn}
+use Rattle.blocks.specs.Extents.{need_or}
 use Rattle.blocks.proofs.Parse.{parsed_ok}
 
 -- One length test
-
-pub need_short : (len a n : ℕ) {x y : ℕ} → len - a < n → x ≡ min n (2 ^ 64 - 1) → y ≡ len - a → ◌≡◌ {A = Out ℕ} (err (refusal 1 a x y)) (need_or len a n)
-unfolding need_or and_then check
-need_short len a n h e f = rw (lt-leb n (len - a) h, e, f)
 
 pub need_there : (len a n : ℕ) → n ≤ len - a → ◌≡◌ {A = Out ℕ} (ok n) (need_or len a n)
 unfolding need_or and_then check
 need_there len a n h = rw (le-leb n (len - a) h)
 
-pub need_ok : (len a n : ℕ) {m : ℕ} → ok m ≡ need_or len a n → (n ≤ len - a) × (m ≡ n)
+pub record Needed (len a n m : ℕ) : Type 0 where
+  pub room : n ≤ len - a
+  pub is : m ≡ n
+
+pub need_ok : {len a n m : ℕ} → ok m ≡ need_or len a n → Needed len a n m
 unfolding need_or
-need_ok len a n {m = m} e =
+need_ok {len} {a} {n} {m} e =
     let p = check_ok _ _ _ m (sym e) in
     let q : ◌≡◌ {A = Out ℕ} (ok n) (ok m) = p.1 in
-    (leb-true n (len - a) p.0, cc)
-
--- an answer, once its case is known
-pub extent_told : {x y : Extent} {o : Out ℕ} → x ≡ y → extent_read x ≡ o → extent_read y ≡ o
-extent_told e f = rw (← e) f
+    record { room = leb-true n (len - a) p.0; is = cc }
 
 -- The reader's tests
 
@@ -109,14 +104,13 @@ pub record Found (r : List ℕ) (a : ℕ) (h : BlockHeader) : Type 0 where
   pub links : h.links_nr ≡ links_nr (bytes r a 24)
   pub len : h.block_len ≡ block_len (bytes r a 24)
 
--- n bytes that are a block's own
-pub record Own (k : Kind) (r : List ℕ) (a n : ℕ) : Type 0 where
-  pub inside : a + n ≤ length r
-  pub size : length (bytes r a n) ≡ n
-  pub len : n ≡ read_len k r a
-  pub links : num (bytes r a n) 16 8 ≡ links_nr (bytes r a 24)
+-- o are the own bytes of the block at a
+pub record Own (k : Kind) (r : List ℕ) (a : ℕ) (o : List ℕ) : Type 0 where
+  pub inside : a + length o ≤ length r
+  pub len : length o ≡ read_len k r a
+  pub links : num o 16 8 ≡ links_nr (bytes r a 24)
   pub sound : header_ok k (bytes r a 24) ≡ true
-  pub read : read_block k r a ≡ ok (bytes r a n)
+  pub is : o ≡ bytes r a (length o)
 
 module _ (k : Kind) (r : List ℕ) (a : ℕ) where
   -- both length tests
@@ -168,32 +162,38 @@ module _ (k : Kind) (r : List ℕ) (a : ℕ) where
 
   -- The parser behind it
 
-  -- the part can be taken, and is all that is read
-  pub own : {n : ℕ} → ok n ≡ parsed length k r a → Own k r a n
+  pub own_of : {o : List ℕ} → read_block k r a ≡ ok o → Own k r a o
   unfolding read_block read_of links_nr
-  own {n = n} e =
-      let p = parsed_ok length k r a (sym e) in
-      let w : a + read_len k r a ≤ length r = read_whole k r a p.0 p.1 in
-      let l : length (bytes r a (read_len k r a)) ≡ read_len k r a = length_bytes r a (read_len k r a) (omega (arith, w)) in
-      let s : length (bytes r a (read_len k r a)) ≡ n = rw (← read_is k r a p.0 p.1) p.2 in
-      let z : n ≡ read_len k r a = omega (arith, l, s) in
-      let m : 24 ≤ n = omega (arith, z, read_least k r a) in
-      let b : read_block k r a ≡ ok (bytes r a (read_len k r a)) = p.1 ∙ ap ok (read_is k r a p.0 p.1) in
-      let e1 = (check_ok _ _ _ _ p.1).1 in
+  own_of {o = o} e =
+      let w : a + read_len k r a ≤ length r = read_whole k r a o e in
+      let p : o ≡ bytes r a (read_len k r a) = read_is k r a o e in
+      let l : length (bytes r a (read_len k r a)) ≡ read_len k r a = length_bytes r a (read_len k r a) (omega arith) in
+      let z : length o ≡ read_len k r a = ap (λ x. length x) p ∙ l in
+      let i : o ≡ bytes r a (length o) = p ∙ ap (λ (n : ℕ). bytes r a n) (sym z) in
+      let m : 24 ≤ length o = omega (arith, z, read_least k r a) in
+      let e1 = (check_ok _ _ _ _ e).1 in
       let e2 = (check_ok _ _ _ _ e1).1 in
       record {
         inside = omega (arith, w, z);
-        size = length_bytes r a n (omega (arith, w, z));
         len = z;
-        links = num_bytes r a n 16 8 (omega (arith, m)) ∙ sym (num_bytes r a 24 16 8 (omega arith));
+        links = ap (λ x. num x 16 8) i ∙ num_bytes r a (length o) 16 8 (omega (arith, m)) ∙ sym (num_bytes r a 24 16 8 (omega arith));
         sound = (check_ok _ _ _ _ e2).0;
-        read = b ∙ ap (λ (i : ℕ). ok (bytes r a i)) (sym z);
+        is = i;
       }
 
-  -- the same of any block that was read
-  pub own_of : {o : List ℕ} → read_block k r a ≡ ok o → Own k r a (length o)
-  unfolding parsed and_then
-  own_of e = own (rw e refl)
+  module _ {n : ℕ} (e : ok n ≡ parsed length k r a) where
+    sized : (o : List ℕ) × (read_block k r a ≡ ok o) × (length o ≡ n)
+    sized = parsed_ok length k r a (sym e)
+
+    -- the part can be taken, and is all that is read
+    pub part_inside : a + n ≤ length r
+    part_inside = let p = sized in omega (arith, (own_of p.1).inside, p.2)
+
+    pub part_read : read_block k r a ≡ ok (take (a + n - a) (drop a r))
+    part_read =
+        let p = sized in
+        let z : p.0 ≡ bytes r a n = (own_of p.1).is ∙ ap (λ (i : ℕ). bytes r a i) p.2 in
+        rw (part_bytes r a n) (p.1 ∙ ap ok z)
 
   module _ {A : Type 0} (f : List ℕ → A) where
     pub own_refused : {e : Refusal} → err e ≡ parsed length k r a → ◌≡◌ {A = Out A} (err e) (parsed f k r a)
@@ -202,4 +202,8 @@ module _ (k : Kind) (r : List ℕ) (a : ℕ) where
 
     pub own_read : {n : ℕ} {b : A} → ok n ≡ parsed length k r a → b ≡ f (take (a + n - a) (drop a r)) → ◌≡◌ {A = Out A} (ok b) (parsed f k r a)
     unfolding parsed
-    own_read {n = n} e q = rw ((own e).read, q, part_bytes r a n) (unfold and_then in refl)
+    own_read e q = rw (part_read e, q) (unfold and_then in refl)
+
+-- a block's own bytes are those of its recording
+pub own : {k : Kind} {o : List ℕ} (x : IsOwn k o) → Own k x.recording x.at o
+own {k} x = own_of k x.recording x.at x.read

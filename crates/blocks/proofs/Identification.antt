@@ -1,49 +1,64 @@
 -- Reading the identification: its refusals, and what is printed of it.
-use mathlib.Core.Path.{◌≡◌, refl, sym}
+use mathlib.Core.Path.{◌≡◌, refl, sym, ap, ◌∙◌}
 use mathlib.Core.Bool.{Bool, true, false}
 use mathlib.Core.List.{List}
-use Prim.Native.Nat.{ℕ, ◌-◌, ◌≤◌, ◌<◌}
+use Prim.Native.Nat.{ℕ, ◌+◌, ◌-◌, ◌≤◌, ◌<◌}
 use native.Mathlib.Omega.{arith}
 use lib.Dec.{eqb}
-use lib.ListN.{length}
-use lib.Seq.{slice}
+use lib.ListN.{length, take, drop, length-take}
+use lib.Seq.{slice, take-take}
 use borrow.Author.Tests.{le-leb, lt-leb, eq-eqb, ne_eqb}
-use Rattle.utf8.specs.Part.{Trimmed, EndTrimmed}
+use Rattle.std.proofs.lemmas.List.{drop-take}
+use Rattle.utf8.specs.Utf8.{chunks}
+use Rattle.utf8.specs.White.{trim, trim_end}
+use Rattle.utf8.specs.Parts.{IsPart}
 use Rattle.mdf4.specs.Bytes.{bytes, little, num}
 use Rattle.mdf4.specs.Act.{Refusal, Out, ok, err, refusal, and_then, check, ID}
 use Rattle.mdf4.specs.Kinds.{shape, is, header_ok, rest, read_len, read_of, read_block}
 use Rattle.mdf4.specs.Version.{version}
 use Rattle.mdf4.specs.Walk.{content_ok}
 use Rattle.mdf4.proofs.Results.{and_then_ok}
-use Rattle.mdf4.proofs.Fields.{bytes_bytes, num_bytes, slice_bytes}
-use Rattle.blocks.specs.declared.identification_block.IdentificationBlock.{IdentificationBlock}
-use Rattle.blocks.specs.IdentificationBlock.{Identification, identification_of, identified, identification, Parts}
+use Rattle.mdf4.proofs.Fields.{bytes_bytes, num_bytes}
+use Rattle.blocks.specs.IdentificationBlock.{Identification, identification_of, identification}
+use Rattle.blocks.proofs.Parts.{cut_part, part_part}
 use Rattle.blocks.proofs.Told.{ok_is, ok_only}
 
--- the fields
-module _ (r : List ℕ) {from to end x y z : ℕ} (t : Trimmed r 8 16 from to) (p : EndTrimmed r 16 24 end) where
-  pub identified_is : x ≡ num r 28 2 → y ≡ num r 60 2 → z ≡ num r 62 2
-      → identified r (record { version_from = from; version_to = to; program_to = end; version_number = x; standard_unfinalized_flags = y; custom_unfinalized_flags = z })
-      ≡ identification_of (bytes r 0 64)
-  unfolding identified identification_of
-  identified_is ex ey ez =
-      rw (
-        t.text,
-        p.text,
-        ex,
-        ey,
-        ez,
-        bytes_bytes r 0 64 8 8 (omega arith),
-        bytes_bytes r 0 64 16 8 (omega arith),
-        num_bytes r 0 64 28 2 (omega arith),
-        num_bytes r 0 64 60 2 (omega arith),
-        num_bytes r 0 64 62 2 (omega arith),
-        ← (slice_bytes r 8 8),
-        ← (slice_bytes r 16 8),
-      )
+own_part : (r : List ℕ) (i w : ℕ) → i + w ≤ 64 → bytes (bytes r 0 64) i w ≡ take w (drop i r)
+unfolding bytes
+own_part r i w h = let z : 0 + i ≡ i = omega arith in rw z at (bytes_bytes r 0 64 i w h)
 
-pub parts_are : {r : List ℕ} {b : IdentificationBlock} → 64 ≤ length r → Trimmed r 8 16 b.version_from b.version_to → EndTrimmed r 16 24 b.program_to → Parts r b
-parts_are l t p = record { version_order = t.order; version_high = omega (arith, t.high); program_order = p.low; program_high = omega (arith, p.high) }
+-- the fields
+pub identified_is : (r v p : List ℕ) → chunks v ≡ trim (chunks (take 8 (drop 8 r))) → chunks p ≡ trim_end (chunks (take 8 (drop 16 r)))
+    → {x y z : ℕ} → x ≡ num r 28 2 → y ≡ num r 60 2 → z ≡ num r 62 2
+    → ◌≡◌ {A = Identification} (record { version = chunks v; program = chunks p; version_number = x; standard_unfinalized_flags = y; custom_unfinalized_flags = z })
+    (identification_of (bytes r 0 64))
+unfolding identification_of
+identified_is r v p ev ep ex ey ez =
+    rw (
+      ev,
+      ep,
+      ex,
+      ey,
+      ez,
+      own_part r 8 8 (omega arith),
+      own_part r 16 8 (omega arith),
+      num_bytes r 0 64 28 2 (omega arith),
+      num_bytes r 0 64 60 2 (omega arith),
+      num_bytes r 0 64 62 2 (omega arith),
+    )
+
+pub version_part : {r v : List ℕ} → 64 ≤ length r → IsPart (take 8 (drop 8 r)) v → IsPart r v
+version_part {r} l q = (part_part (cut_part r 8 16 (omega arith) (omega arith)) q).0
+
+module _ (r : List ℕ) {p : List ℕ} (l : 64 ≤ length r) (e : p ≡ take (length p) (take 8 (drop 16 r))) where
+  short : length p ≤ 8
+  short = omega (arith, simp (length-take, length-take) at (ap (λ x. length x) e))
+
+  pub program_high : 16 + length p ≤ length r
+  program_high = omega (arith, short)
+
+  pub program_is : p ≡ slice 16 (16 + length p) r
+  program_is = e ∙ take-take (length p) 8 (drop 16 r) short ∙ sym (drop-take 16 (length p) r)
 
 -- the steps in a row
 chain : {A : Type 0} (t : Bool) (e : Refusal) (v : Out ℕ) (x : A)
@@ -64,22 +79,22 @@ module _ (r : List ℕ) where
     own = let z : length r - 0 ≡ length r = omega arith in rw (z, le-leb 64 (length r) long)
 
     steps : identification r
-        ≡ and_then (check (eqb (num r 0 8) 0x202020202046444d) (refusal 2 0 0 0)) (λ u. and_then (version (slice 8 16 r)) (λ n. ok (identification_of (bytes r 0 64))))
+        ≡ and_then (check (eqb (num r 0 8) 0x202020202046444d) (refusal 2 0 0 0)) (λ u. and_then (version (take 8 (drop 8 r))) (λ n. ok (identification_of (bytes r 0 64))))
     unfolding identification content_ok is shape little and_then
     steps =
-        rw (own, num_bytes r 0 64 0 8 (omega arith), bytes_bytes r 0 64 8 8 (omega arith), ← (slice_bytes r 8 8))
-        (chain (eqb (num r 0 8) 0x202020202046444d) (refusal 2 0 0 0) (version (slice 8 16 r)) (identification_of (bytes r 0 64)))
+        rw (own, num_bytes r 0 64 0 8 (omega arith), own_part r 8 8 (omega arith))
+        (chain (eqb (num r 0 8) 0x202020202046444d) (refusal 2 0 0 0) (version (take 8 (drop 8 r))) (identification_of (bytes r 0 64)))
 
     pub ident_other : (num r 0 8 ≡ 0x202020202046444d → ⊥) → err (refusal 2 0 0 0) ≡ identification r
     unfolding and_then check
     ident_other n = rw (steps, ne_eqb (num r 0 8) 0x202020202046444d n)
 
     module _ (mark : num r 0 8 ≡ 0x202020202046444d) where
-      pub ident_refused : {e : Refusal} → err e ≡ version (slice 8 16 r) → err e ≡ identification r
+      pub ident_refused : {e : Refusal} → err e ≡ version (take 8 (drop 8 r)) → err e ≡ identification r
       unfolding and_then check
       ident_refused v = rw (steps, eq-eqb (num r 0 8) 0x202020202046444d mark, ← v)
 
-      pub ident_read : {n : ℕ} {x : Identification} → ok n ≡ version (slice 8 16 r) → x ≡ identification_of (bytes r 0 64) → ok x ≡ identification r
+      pub ident_read : {n : ℕ} {x : Identification} → ok n ≡ version (take 8 (drop 8 r)) → x ≡ identification_of (bytes r 0 64) → ok x ≡ identification r
       unfolding and_then check
       ident_read v e = rw (steps, eq-eqb (num r 0 8) 0x202020202046444d mark, ← v, e)
 

@@ -1,19 +1,14 @@
 -- Laws of the parsers.
+pub mod Told
 pub mod Errors
-pub mod Headers
-pub mod Fixed
-pub mod Plain
-pub mod HeaderBlock
-pub mod DataBlock
-pub mod DataGroupBlock
-pub mod DataType
 pub mod Parse
 pub mod Extents
+pub mod Fixed
+pub mod Plain
 pub mod ChannelGroupBlock
-pub mod ChannelBlock
 pub mod SourceBlock
 pub mod DataListBlock
-pub mod Told
+pub mod Parts
 pub mod Texts
 pub mod Version
 pub mod Identification

@@ -9,20 +9,18 @@ use lib.ListN.{length, take, drop}
 use lib.Seq.{slice, drop-drop}
 use borrow.Author.Tests.{leb-true, le-leb, lt-leb}
 use Rattle.utf8.specs.Nul.{before_nul, trim_nuls}
-use Rattle.utf8.specs.Part.{BeforeNul, NulsOff}
+use Rattle.utf8.specs.Parts.{IsPart}
 use Rattle.mdf4.specs.Bytes.{bytes}
 use Rattle.mdf4.specs.Act.{Refusal, Out, ok, err, refusal, and_then, check, Kind, TX, MD}
 use Rattle.mdf4.specs.Kinds.{shape, is, header_ok, rest, read_len, read_of, read_block, block_len}
 use Rattle.mdf4.specs.Describe.{tx_text, md_text}
-use Rattle.mdf4.proofs.Results.{and_then_ok, check_ok}
+use Rattle.mdf4.proofs.Results.{check_ok}
 use Rattle.mdf4.proofs.Fields.{slice_bytes, num_bytes}
-use Rattle.mdf4.proofs.Reading.{read_is, read_whole}
 use Rattle.blocks.specs.declared.common.BlockHeader.{BlockHeader}
-use Rattle.blocks.specs.declared.text_block.TextRange.{TextRange}
 use Rattle.blocks.specs.Headers.{header_of, inside_or}
-use Rattle.blocks.specs.Parse.{parsed}
-use Rattle.blocks.specs.TextBlock.{text_range_of, TextAt}
-use Rattle.blocks.proofs.Told.{ok_is, ok_only}
+use Rattle.blocks.specs.TextBlock.{TextAt, behind_header}
+use Rattle.blocks.proofs.Told.{ok_is}
+use Rattle.blocks.proofs.Parts.{cut_slice, part_part}
 
 -- both kinds are read alike
 pub md_read : (r : List ℕ) (a : ℕ) → read_block TX r a ≡ read_block MD r a
@@ -59,9 +57,13 @@ module _ (r : List ℕ) (a : ℕ) where
       let z : max 24 (block_len (bytes r a 24)) + 0 ≡ max 24 (block_len (bytes r a 24)) = omega arith in
       rw z (unfold and_then check in chain (leb (a + 24) (length r)) (header_of (bytes r a 24)) (λ h. leb (max 24 h.block_len) (length r - a)) (λ h. bytes r a (max 24 h.block_len)) _ _)
 
+  -- what stands behind the header
+  pub tail : (n : ℕ) → slice (a + 24) (a + n) r ≡ drop 24 (bytes r a n)
+  tail n = rw (← (slice_bytes r a n)) (sym (drop-drop 24 a (take (a + n) r)))
+
   -- the header
-  pub range_refused : {e : Refusal} → err e ≡ inside_or r a 24 → ◌≡◌ {A = Out TextRange} (err e) (parsed (text_range_of a) TX r a)
-  unfolding parsed and_then
+  pub range_refused : {e : Refusal} → err e ≡ inside_or r a 24 → read_block TX r a ≡ err e
+  unfolding and_then
   range_refused e = rw (read_tx, ← e)
 
   module _ {h : BlockHeader} (e : ok h ≡ inside_or r a 24) where
@@ -76,71 +78,47 @@ module _ (r : List ℕ) (a : ℕ) where
         rw (← q)
 
     -- the block
-    pub range_short : {x : ℕ} → x ≡ max 24 h.block_len → x < 2 ^ 64 → length r - a < x
-        → ◌≡◌ {A = Out TextRange} (err (refusal 1 a x (length r - a))) (parsed (text_range_of a) TX r a)
-    unfolding parsed and_then check
+    pub range_short : {x : ℕ} → x ≡ max h.block_len 24 → x < 2 ^ 64 → length r - a < x → read_block TX r a ≡ err (refusal 1 a x (length r - a))
+    unfolding and_then check
     range_short {x} q f l =
         let m : min x (2 ^ 64 - 1) ≡ x = omega arith in
-        rw (read_tx, ← e, ← q, lt-leb x (length r - a) l, m)
+        let z : max 24 h.block_len ≡ x = omega arith in
+        rw (read_tx, ← e, z, lt-leb x (length r - a) l, m)
 
-    pub range_read : {x : ℕ} → x ≡ max 24 h.block_len → x ≤ length r - a
-        → ok (record { block_len = h.block_len; from = a + 24; to = a + x }) ≡ parsed (text_range_of a) TX r a
-    unfolding parsed and_then check text_range_of
-    range_read {x} q l = rw (read_tx, ← e, ← q, le-leb x (length r - a) l, len_is x (omega arith), ← long, ← q)
+    range_own : {x : ℕ} → x ≡ max h.block_len 24 → x ≤ length r - a → read_block TX r a ≡ ok (bytes r a x)
+    unfolding and_then check
+    range_own {x} q l =
+        let z : max 24 h.block_len ≡ x = omega arith in
+        rw (read_tx, ← e, z, le-leb x (length r - a) l)
 
-  -- what stands behind the header
-  pub tail : (n : ℕ) → slice (a + 24) (a + n) r ≡ drop 24 (bytes r a n)
-  tail n = rw (← (slice_bytes r a n)) (sym (drop-drop 24 a (take (a + n) r)))
-
-  -- the block's own bytes, as its length tells them
-  own_is : (o : List ℕ) → read_block TX r a ≡ ok o → (o ≡ bytes r a (max 24 (block_len o))) × (a + max 24 (block_len o) ≤ length r)
-  own_is o e =
-      let n : read_len TX r a ≡ max 24 (block_len (bytes r a 24)) = unfold read_len shape rest is in omega arith in
-      let p : o ≡ bytes r a (max 24 (block_len (bytes r a 24))) = rw n at (read_is TX r a o e) in
-      let q : block_len o ≡ block_len (bytes r a 24) = rw p (len_is (max 24 (block_len (bytes r a 24))) (omega arith)) in
-      (rw q p, rw q (rw n at (read_whole TX r a o e)))
-
-  module _ {x : TextRange} (e : ok x ≡ parsed (text_range_of a) TX r a) where
-    read_ok : (o : List ℕ) × (read_block TX r a ≡ ok o) × (text_range_of a o ≡ x)
-    unfolding parsed
-    read_ok = let p = and_then_ok (read_block TX r a) _ x (sym e) in (p.0, p.1, ok_is p.2)
-
-    pub range_inside : (x.from ≤ x.to) × (x.to ≤ length r)
-    unfolding text_range_of
-    range_inside =
-        let p = read_ok in
-        rw (← p.2) (omega arith, (own_is p.0 p.1).1)
-
-    -- a text of the kind k, read of what stands behind the header
-    text_at : (k : Kind) → read_block TX r a ≡ read_block k r a → (f : List ℕ → List ℕ) → {from to : ℕ}
-        → x.from ≤ from → from ≤ to → to ≤ x.to → slice from to r ≡ f (slice x.from x.to r)
-        → TextAt k (λ o. f (drop 24 o)) r a (record { block_len = x.block_len; from = from; to = to })
-    unfolding text_range_of
-    text_at k same f {from} {to} l m h t = let p = read_ok in go p.0 p.1 p.2
-      where
-        go : (o : List ℕ) → read_block TX r a ≡ ok o → text_range_of a o ≡ x → TextAt k (λ o. f (drop 24 o)) r a (record { block_len = x.block_len; from = from; to = to })
-        go o read q = record {
-          own = o;
-          read = rw (← same) read;
-          long = rw (← q);
-          low = rw (← q) at l;
-          order = m;
-          high = omega (arith, range_inside);
-          is = t ∙ ap f (rw (← q) (tail (max 24 (block_len o)) ∙ ap (drop 24) (sym (own_is o read).0)));
+    pub range_read : {x : ℕ} → x ≡ max h.block_len 24 → x ≤ length r - a → TextAt TX behind_header r a h.block_len (take (a + x - (a + 24)) (drop (a + 24) r))
+    range_read {x} q l =
+        let c : take (a + x - (a + 24)) (drop (a + 24) r) ≡ slice (a + 24) (a + x) r = cut_slice r (a + 24) (a + x) (omega arith) in
+        record {
+          own = bytes r a x;
+          read = range_own q l;
+          long = long ∙ sym (len_is x (omega arith));
+          part = record { from = a + 24; to = a + x; order = omega arith; high = omega (arith, header_inside); is = c };
+          low = omega arith;
+          is = c ∙ tail x;
         }
 
-    pub tx_at : {to : ℕ} → BeforeNul r x.from x.to to → TextAt TX tx_text r a (record { block_len = x.block_len; from = x.from; to = to })
-    unfolding tx_text
-    tx_at b = text_at TX refl before_nul (omega arith) b.low b.high b.text
+-- a text of the kind k, cut out of what stands behind the header
+module _ {r : List ℕ} {a l : ℕ} {t u : List ℕ} (x : TextAt TX behind_header r a l t) (p : IsPart t u) where
+  text_at : (k : Kind) → read_block TX r a ≡ read_block k r a → (f : List ℕ → List ℕ) → u ≡ f t → TextAt k (λ o. f (drop 24 o)) r a l u
+  text_at k same f e = record {
+    own = x.own;
+    read = rw (← same) x.read;
+    long = x.long;
+    part = (part_part x.part p).0;
+    low = omega (arith, x.low, (part_part x.part p).1);
+    is = e ∙ ap f x.is;
+  }
 
-    pub md_at : {from to : ℕ} → NulsOff r x.from x.to from to → TextAt MD md_text r a (record { block_len = x.block_len; from = from; to = to })
-    unfolding md_text
-    md_at b = text_at MD (md_read r a) trim_nuls b.low b.order b.high b.text
+  pub tx_at : u ≡ before_nul t → TextAt TX tx_text r a l u
+  unfolding tx_text
+  tx_at e = text_at TX refl before_nul e
 
-  -- a refusal is the block's
-  pub tx_refused : {e : Refusal} → err e ≡ parsed (text_range_of a) TX r a → read_block TX r a ≡ err e
-  unfolding parsed
-  tx_refused e = ok_only (read_block TX r a) (text_range_of a) _ (sym e)
-
-  pub md_refused : {e : Refusal} → err e ≡ parsed (text_range_of a) TX r a → read_block MD r a ≡ err e
-  md_refused e = rw (← (md_read r a)) (tx_refused e)
+  pub md_at : u ≡ trim_nuls t → TextAt MD md_text r a l u
+  unfolding md_text
+  md_at e = text_at MD (md_read r a) trim_nuls e

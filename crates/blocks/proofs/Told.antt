@@ -1,19 +1,24 @@
 -- What an answer says once its case is known.
 use mathlib.Core.Path.{◌≡◌}
-use mathlib.Core.List.{List}
-use Prim.Native.Nat.{ℕ}
-use Rattle.mdf4.specs.Act.{Refusal, Out, ok, err, and_then, Kind}
+use Rattle.std.proofs.Common.{IsErrAnd, IfErr}
+use Rattle.std.specs.Prelude.{Result, Ok, Err}
+use Rattle.mdf4.specs.Act.{Refusal, Out, ok, err, and_then}
 use Rattle.mdf4.proofs.Results.{never}
-use Rattle.blocks.specs.declared.text_block.TextRange.{TextRange}
-use Rattle.blocks.specs.TextBlock.{TextRead}
+use Rattle.blocks.specs.declared.error.MdfError.{MdfError}
+use Rattle.blocks.specs.Errors.{numbers, told, told_as}
 
--- f says what an enum of the code answers
-module _ {A : Type 0} {x y : A} where
-  pub told_as : {B : Type 0} (f : A → B) {o : B} → x ≡ y → f x ≡ o → f y ≡ o
-  told_as f e p = rw (← e) p
+-- what `?` hands on says the same refusal
+pub told_on : {A : Type 0} (r : Result A MdfError) (e : MdfError) → IsErrAnd r (λ d. d ≡ e) → told r ≡ err (numbers e)
+told_on (Err d) e h = rw h
+told_on (Ok a) e h = absurd h
 
-  pub text_told : (k : Kind) (text : List ℕ → List ℕ) (r : List ℕ) (a : ℕ) (f : A → Out TextRange) → x ≡ y → TextRead k text r a (f x) → TextRead k text r a (f y)
-  text_told k text r a f e p = rw (← e) p
+pub told_as_on : {A B : Type 0} (f : A → B) (r : Result A MdfError) (e : MdfError) → IsErrAnd r (λ d. d ≡ e) → told_as f r ≡ err (numbers e)
+told_as_on f (Err d) e h = rw h
+told_as_on f (Ok a) e h = absurd h
+
+pub refused_on : {A : Type 0} (P : Refusal → Type 0) (r : Result A MdfError) (e : MdfError) → IsErrAnd r (λ d. d ≡ e) → P (numbers e) → IfErr r (λ d. P (numbers d))
+refused_on P (Err d) e h p = rw h p
+refused_on P (Ok a) e h p = absurd h
 
 pub ok_is : {A : Type 0} {x y : A} → ◌≡◌ {A = Out A} (ok x) (ok y) → x ≡ y
 ok_is e = cc

@@ -1,16 +1,8 @@
 -- A channel's fields.
 use Rattle.std.specs.Prelude.{List, ℕ}
 use Rattle.mdf4.specs.Bytes.{num}
-use Rattle.mdf4.specs.Act.{Out, ok, err}
 use Rattle.mdf4.specs.Kinds.{block_len}
-use Rattle.blocks.specs.Errors.{numbers}
 use Rattle.blocks.specs.declared.channel_block.ChannelBlock.{ChannelBlock}
-use Rattle.blocks.specs.declared.channel_block.ChannelBlockRead.{ChannelBlockRead}
-use Rattle.blocks.specs.declared.channel_block.ChannelBlockRead.TheVariants.{Block, Refused}
-
-abbrev pub channel_block_read : ChannelBlockRead → Out ChannelBlock
-channel_block_read (Block b) = ok b
-channel_block_read (Refused e) = err (numbers e)
 
 unfoldable pub channel_block_of : List ℕ → ChannelBlock
 channel_block_of o = record {

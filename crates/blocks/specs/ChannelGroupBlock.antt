@@ -1,16 +1,8 @@
 -- A channel group's fields.
 use Rattle.std.specs.Prelude.{cond, List, ℕ, ◌+◌, leb}
 use Rattle.mdf4.specs.Bytes.{num}
-use Rattle.mdf4.specs.Act.{Out, ok, err}
 use Rattle.mdf4.specs.Kinds.{block_len, links_nr, data_at, master_cg_addr}
-use Rattle.blocks.specs.Errors.{numbers}
 use Rattle.blocks.specs.declared.channel_group_block.ChannelGroupBlock.{ChannelGroupBlock}
-use Rattle.blocks.specs.declared.channel_group_block.ChannelGroupBlockRead.{ChannelGroupBlockRead}
-use Rattle.blocks.specs.declared.channel_group_block.ChannelGroupBlockRead.TheVariants.{Block, Refused}
-
-abbrev pub channel_group_block_read : ChannelGroupBlockRead → Out ChannelGroupBlock
-channel_group_block_read (Block b) = ok b
-channel_group_block_read (Refused e) = err (numbers e)
 
 unfoldable pub channel_group_block_of : List ℕ → ChannelGroupBlock
 channel_group_block_of o = record {

@@ -1,16 +1,8 @@
 -- A data group's fields.
 use Rattle.std.specs.Prelude.{List, ℕ}
 use Rattle.mdf4.specs.Bytes.{num}
-use Rattle.mdf4.specs.Act.{Out, ok, err}
 use Rattle.mdf4.specs.Kinds.{block_len}
-use Rattle.blocks.specs.Errors.{numbers}
 use Rattle.blocks.specs.declared.data_group_block.DataGroupBlock.{DataGroupBlock}
-use Rattle.blocks.specs.declared.data_group_block.DataGroupBlockRead.{DataGroupBlockRead}
-use Rattle.blocks.specs.declared.data_group_block.DataGroupBlockRead.TheVariants.{Block, Refused}
-
-abbrev pub data_group_block_read : DataGroupBlockRead → Out DataGroupBlock
-data_group_block_read (Block b) = ok b
-data_group_block_read (Refused e) = err (numbers e)
 
 unfoldable pub data_group_block_of : List ℕ → DataGroupBlock
 data_group_block_of o = record {

@@ -1,17 +1,10 @@
 -- A data list's fields, and its two length tests.
 use Rattle.std.specs.Prelude.{◌≡◌, cond, List, ℕ, ◌+◌, ◌*◌, ◌%◌, ◌≤◌, eqb, length}
 use Rattle.mdf4.specs.Bytes.{num}
-use Rattle.mdf4.specs.Act.{Out, ok, err, and_then}
+use Rattle.mdf4.specs.Act.{Out, and_then}
 use Rattle.mdf4.specs.Kinds.{block_len, links_nr, data_at}
-use Rattle.blocks.specs.Errors.{numbers}
 use Rattle.blocks.specs.Extents.{need_or}
 use Rattle.blocks.specs.declared.data_list_block.DataListBlock.{DataListBlock}
-use Rattle.blocks.specs.declared.data_list_block.DataListBlockRead.{DataListBlockRead}
-use Rattle.blocks.specs.declared.data_list_block.DataListBlockRead.TheVariants.{Block, Refused}
-
-abbrev pub data_list_block_read : DataListBlockRead → Out DataListBlock
-data_list_block_read (Block b) = ok b
-data_list_block_read (Refused e) = err (numbers e)
 
 unfoldable pub data_list_block_of : List ℕ → DataListBlock
 data_list_block_of o = record {

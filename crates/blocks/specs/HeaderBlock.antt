@@ -2,15 +2,7 @@
 use Rattle.std.specs.Prelude.{List, ℕ}
 use Rattle.fmt.specs.Digits.{i16_of}
 use Rattle.mdf4.specs.Bytes.{num}
-use Rattle.mdf4.specs.Act.{Out, ok, err}
-use Rattle.blocks.specs.Errors.{numbers}
 use Rattle.blocks.specs.declared.header_block.HeaderBlock.{HeaderBlock}
-use Rattle.blocks.specs.declared.header_block.HeaderBlockRead.{HeaderBlockRead}
-use Rattle.blocks.specs.declared.header_block.HeaderBlockRead.TheVariants.{Block, Refused}
-
-abbrev pub header_block_read : HeaderBlockRead → Out HeaderBlock
-header_block_read (Block b) = ok b
-header_block_read (Refused e) = err (numbers e)
 
 unfoldable pub header_block_of : List ℕ → HeaderBlock
 header_block_of o = record {

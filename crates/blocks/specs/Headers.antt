@@ -1,16 +1,9 @@
 -- A block's header, and the first refusals of every parser.
 use Rattle.std.specs.Prelude.{List, ℕ, ◌+◌, min, leb, eqb, length}
 use Rattle.mdf4.specs.Bytes.{bytes, num}
-use Rattle.mdf4.specs.Act.{Out, ok, err, refusal, and_then, check}
+use Rattle.mdf4.specs.Act.{Out, ok, refusal, and_then, check}
 use Rattle.mdf4.specs.Kinds.{block_len, links_nr, u64_max}
-use Rattle.blocks.specs.Errors.{numbers}
 use Rattle.blocks.specs.declared.common.BlockHeader.{BlockHeader}
-use Rattle.blocks.specs.declared.common.HeaderRead.{HeaderRead}
-use Rattle.blocks.specs.declared.common.HeaderRead.TheVariants.{Header, Refused}
-
-abbrev pub header_read : HeaderRead → Out BlockHeader
-header_read (Header h) = ok h
-header_read (Refused e) = err (numbers e)
 
 -- of the 24 bytes
 unfoldable pub header_of : List ℕ → BlockHeader

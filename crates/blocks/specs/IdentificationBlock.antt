@@ -1,32 +1,19 @@
 -- What the identification says, and the reading of its version.
-use Rattle.std.specs.Prelude.{◌≡◌, List, ℕ, ◌+◌, ◌*◌, ◌^◌, ◌≤◌, leb, ltb, length}
+use Rattle.std.specs.Prelude.{◌≡◌, List, ℕ, ◌+◌, ◌*◌, ◌^◌, ◌≤◌, leb, ltb, length, Result}
 use Rattle.std.proofs.Math.Seq.{slice}
 use Rattle.utf8.specs.Utf8.{Chunk, chunks}
 use Rattle.utf8.specs.White.{trim, trim_end}
+use Rattle.utf8.specs.Parts.{IsPart}
 use Rattle.mdf4.specs.Bytes.{bytes, num}
-use Rattle.mdf4.specs.Act.{Out, ok, err, refusal, and_then, check, ID}
+use Rattle.mdf4.specs.Act.{Out, ok, refusal, and_then, check, ID}
 use Rattle.mdf4.specs.Kinds.{read_block}
 use Rattle.mdf4.specs.Version.{before_dot, from_dot, parse_u16, parse_minor}
 use Rattle.mdf4.specs.Walk.{content_ok}
-use Rattle.blocks.specs.Errors.{numbers}
-use Rattle.blocks.specs.declared.identification_block.VersionRead.{VersionRead}
-use Rattle.blocks.specs.declared.identification_block.VersionRead.TheVariants as version
+use Rattle.blocks.specs.Errors.{told_as}
+use Rattle.blocks.specs.declared.error.MdfError.{MdfError}
 use Rattle.blocks.specs.declared.identification_block.IdentificationBlock.{IdentificationBlock}
-use Rattle.blocks.specs.declared.identification_block.IdentificationBlockRead.{IdentificationBlockRead}
-use Rattle.blocks.specs.declared.identification_block.IdentificationBlockRead.TheVariants as block
 
 -- ---- the version
-
-abbrev pub version_read : VersionRead → Out ℕ
-version_read (version.Number n) = ok n
-version_read (version.Refused e) = err (numbers e)
-
--- r is the first '.' of a text, or its end
-pub record DotAt (s : List ℕ) (at end r : ℕ) : Type 0 where
-  pub low : at ≤ r
-  pub high : r ≤ end
-  pub front : slice at r s ≡ before_dot (slice at end s)
-  pub rest : slice r end s ≡ from_dot (slice at end s)
 
 -- the last steps of `version`: of its two parts, and of the trimmed text
 unfoldable pub version_number : ℕ → ℕ → Out ℕ
@@ -61,35 +48,25 @@ identification_of o = record {
   custom_unfinalized_flags = num o 62 2;
 }
 
--- of the code's struct and the recording r
-unfoldable pub identified : List ℕ → IdentificationBlock → Identification
-identified r b = record {
-  version = chunks (slice b.version_from b.version_to r);
-  program = chunks (slice 16 b.program_to r);
+-- of the code's struct
+unfoldable pub identified : IdentificationBlock → Identification
+identified b = record {
+  version = chunks b.version.now;
+  program = chunks b.program.now;
   version_number = b.version_number;
   standard_unfinalized_flags = b.standard_unfinalized_flags;
   custom_unfinalized_flags = b.custom_unfinalized_flags;
 }
 
-abbrev pub identification_read : List ℕ → IdentificationBlockRead → Out Identification
-identification_read r (block.Block b) = ok (identified r b)
-identification_read r (block.Refused e) = err (numbers e)
+abbrev pub identification_read : Result IdentificationBlock MdfError → Out Identification
+identification_read x = told_as identified x
 
 -- the block of a recording, or refusal 1, 2, 3, 7 or 4
 unfoldable pub identification : List ℕ → Out Identification
 identification r = and_then (read_block ID r 0) (λ o. and_then (content_ok ID o) (λ u. ok (identification_of o)))
 
--- its texts stand in the recording
+-- its texts stand in the recording, the program from 16 on
 pub record Parts (r : List ℕ) (b : IdentificationBlock) : Type 0 where
-  pub version_order : b.version_from ≤ b.version_to
-  pub version_high : b.version_to ≤ length r
-  pub program_order : 16 ≤ b.program_to
-  pub program_high : b.program_to ≤ length r
-
-abbrev pub PartsOf : List ℕ → IdentificationBlockRead → Type 0
-PartsOf r (block.Block b) = Parts r b
-PartsOf r (block.Refused e) = Unit {0}
-
-pub record IdentificationRead (r : List ℕ) (x : IdentificationBlockRead) : Type 0 where
-  pub says : identification_read r x ≡ identification r
-  pub parts : PartsOf r x
+  pub version : IsPart r b.version.now
+  pub program : b.program.now ≡ slice 16 (16 + length b.program.now) r
+  pub program_high : 16 + length b.program.now ≤ length r

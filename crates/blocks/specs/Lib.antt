@@ -1,5 +1,6 @@
 -- What the parsers answer.
 pub mod Errors
+pub mod Kind
 pub mod Headers
 pub mod Parse
 pub mod HeaderBlock
@@ -10,5 +11,4 @@ pub mod ChannelBlock
 pub mod SourceBlock
 pub mod DataListBlock
 pub mod TextBlock
-pub mod MetadataBlock
 pub mod IdentificationBlock

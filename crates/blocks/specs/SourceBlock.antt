@@ -1,16 +1,9 @@
 -- A source's fields. Its three links are the targets that the definition shows.
 use Rattle.std.specs.Prelude.{List, ℕ, ◌+◌, get_or}
 use Rattle.mdf4.specs.Bytes.{num}
-use Rattle.mdf4.specs.Act.{Out, ok, err, SI}
+use Rattle.mdf4.specs.Act.{SI}
 use Rattle.mdf4.specs.Kinds.{block_len, data_at, shape}
-use Rattle.blocks.specs.Errors.{numbers}
 use Rattle.blocks.specs.declared.source_block.SourceBlock.{SourceBlock}
-use Rattle.blocks.specs.declared.source_block.SourceBlockRead.{SourceBlockRead}
-use Rattle.blocks.specs.declared.source_block.SourceBlockRead.TheVariants.{Block, Refused}
-
-abbrev pub source_block_read : SourceBlockRead → Out SourceBlock
-source_block_read (Block b) = ok b
-source_block_read (Refused e) = err (numbers e)
 
 unfoldable pub source_block_of : List ℕ → SourceBlock
 source_block_of o = record {

@@ -1,14 +1,14 @@
 // A channel, ##CN, as channel_block.rs reads it.
 ghost use Rattle.std.specs.Prelude.{◌≡◌, ◌≤◌, length};
 ghost use Rattle.mdf4.specs.Act.{CN};
-ghost use Rattle.blocks.specs.Parse.{parsed};
-ghost use Rattle.blocks.specs.ChannelBlock.{channel_block_read, channel_block_of};
+ghost use Rattle.blocks.specs.ChannelBlock.{channel_block_of};
 
-use crate::common::{BlockHeader, HeaderRead};
+use crate::common::BlockParse;
 use crate::error::MdfError;
+use crate::extent::fixed_extent;
 use little_endian::{read_u8, read_u32, read_u64};
 
-#[derive(Clone, Copy)]
+#[derive(Clone, Copy, Debug, PartialEq, Eq)]
 pub struct ChannelBlock {
     pub block_len: u64,
     pub next_ch_addr: u64,
@@ -31,20 +31,18 @@ pub struct ChannelBlock {
     pub precision: u8,
 }
 
-#[derive(Drop)]
-pub enum ChannelBlockRead {
-    Block(ChannelBlock),
-    Refused(MdfError),
-}
-
-impl ChannelBlock {
+impl BlockParse for ChannelBlock {
     // "##CN"
-    pub const ID: u32 = 0x4e43_2323;
+    const ID: u32 = 0x4e43_2323;
 
-    pub const MIN_LEN: u64 = 160;
+    const MIN_LEN: u64 = 160;
 
-    // The fields of the block's own bytes.
-    pub fn fields(b: &[u8]) -> ChannelBlock
+    ghost kind = { CN };
+
+    ghost fields_of = { channel_block_of };
+
+    #[tactic(auto, unfolding(crate::specs::ChannelBlock::channel_block_of, mdf4::specs::Kinds::block_len))]
+    fn fields(b: &[u8]) -> ChannelBlock
         requires { 160 ≤ length b.now }
         ensures { result ≡ channel_block_of b.now }
     {
@@ -70,16 +68,7 @@ impl ChannelBlock {
         }
     }
 
-    pub fn parse(file: &[u8], offset: u64) -> ChannelBlockRead
-        ensures { channel_block_read result ≡ parsed channel_block_of CN file.now offset }
-    {
-        match BlockHeader::parse_marked(file, offset, ChannelBlock::MIN_LEN, ChannelBlock::ID) {
-            HeaderRead::Refused(e) => ChannelBlockRead::Refused(e),
-            HeaderRead::Header(header) => {
-                let at = offset as usize;
-                let end = at + ChannelBlock::MIN_LEN as usize;
-                ChannelBlockRead::Block(ChannelBlock::fields(&file[at..end]))
-            }
-        }
+    fn extent(file: &[u8], offset: u64) -> Result<u64, MdfError> {
+        fixed_extent(file, offset, Self::MIN_LEN, Self::ID)
     }
 }

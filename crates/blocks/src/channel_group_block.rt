@@ -2,16 +2,14 @@
 ghost use Rattle.std.specs.Prelude.{◌≡◌, cond, ◌&&◌, ◌+◌, ◌*◌, ◌/◌, ◌%◌, ◌≤◌, leb, eqb, length};
 ghost use Rattle.mdf4.specs.Bytes.{num};
 ghost use Rattle.mdf4.specs.Act.{CG};
-ghost use Rattle.blocks.specs.Parse.{parsed};
-ghost use Rattle.blocks.specs.Extents.{extent_read};
-ghost use Rattle.blocks.specs.ChannelGroupBlock.{channel_group_block_read, channel_group_block_of};
+ghost use Rattle.blocks.specs.ChannelGroupBlock.{channel_group_block_of};
 
-use crate::common::{BlockHeader, HeaderRead};
+use crate::common::{BlockHeader, BlockParse};
 use crate::error::MdfError;
-use crate::extent::{Extent, need_from_block};
+use crate::extent::need_from_block;
 use little_endian::{read_u16, read_u32, read_u64};
 
-#[derive(Clone, Copy)]
+#[derive(Clone, Copy, Debug, PartialEq, Eq)]
 pub struct ChannelGroupBlock {
     pub block_len: u64,
     pub links_nr: u64,
@@ -29,35 +27,18 @@ pub struct ChannelGroupBlock {
     pub invalidation_bytes_nr: u32,
 }
 
-#[derive(Drop)]
-pub enum ChannelGroupBlockRead {
-    Block(ChannelGroupBlock),
-    Refused(MdfError),
-}
-
 impl ChannelGroupBlock {
-    // "##CG"
-    pub const ID: u32 = 0x4743_2323;
-
-    pub const MIN_LEN: u64 = 104;
-
     // What is read beside the links: the header and 32 bytes of data.
     pub const FIXED_LEN: u64 = BlockHeader::LEN + 32;
 
     // Whether there are six links, and the links and the 32 bytes behind them lie inside the block.
-    fn header_ok(links_nr: u64, block_len: u64) -> bool
-        ensures { result ≡ (leb 6 links_nr && leb (24 + 8 * links_nr + 32) block_len) }
+    fn header_ok(header: BlockHeader) -> bool
+        ensures { result ≡ (leb 6 header.links_nr && leb (24 + 8 * header.links_nr + 32) header.block_len) }
     {
-        if links_nr < 6 {
-            return false;
-        }
-        if block_len < ChannelGroupBlock::FIXED_LEN {
-            return false;
-        }
-        if (block_len - ChannelGroupBlock::FIXED_LEN) / 8 < links_nr {
-            return false;
-        }
-        true
+        let links_nr = header.links_nr;
+        let block_len = header.block_len;
+        let fixed = ChannelGroupBlock::FIXED_LEN;
+        6 <= links_nr && fixed <= block_len && links_nr <= (block_len - fixed) / 8
     }
 
     // The seventh link, which counts if bit 3 of the flags is set.
@@ -65,17 +46,26 @@ impl ChannelGroupBlock {
         requires { 80 ≤ length b.now }
         ensures { result ≡ cond (leb 7 links_nr) (cond (eqb (flags / 8 % 2) 1) (num b.now 72 8) 0) 0 }
     {
-        if links_nr < 7 {
-            return 0;
+        if 7 <= links_nr && flags / 8 % 2 == 1 {
+            read_u64(b, 72)
+        } else {
+            0
         }
-        if flags / 8 % 2 == 1 {
-            return read_u64(b, 72);
-        }
-        0
     }
+}
 
-    // The fields of the block's own bytes.
-    pub fn fields(b: &[u8]) -> ChannelGroupBlock
+impl BlockParse for ChannelGroupBlock {
+    // "##CG"
+    const ID: u32 = 0x4743_2323;
+
+    const MIN_LEN: u64 = 104;
+
+    ghost kind = { CG };
+
+    ghost fields_of = { channel_group_block_of };
+
+    #[tactic(auto, unfolding(crate::specs::ChannelGroupBlock::channel_group_block_of, mdf4::specs::Kinds::block_len, mdf4::specs::Kinds::links_nr, mdf4::specs::Kinds::data_at, mdf4::specs::Kinds::master_cg_addr))]
+    fn fields(b: &[u8]) -> ChannelGroupBlock
         requires { (104 ≤ length b.now) × (24 + 8 * num b.now 16 8 + 32 ≤ length b.now) }
         ensures { result ≡ channel_group_block_of b.now }
     {
@@ -100,43 +90,20 @@ impl ChannelGroupBlock {
         }
     }
 
-    // How many bytes are the block's own.
-    fn extent(file: &[u8], offset: u64) -> Extent
-        ensures { extent_read result ≡ parsed length CG file.now offset }
-    {
-        match BlockHeader::parse_marked(
-            file,
+    fn extent(file: &[u8], offset: u64) -> Result<u64, MdfError> {
+        let header = BlockHeader::parse_marked(file, offset, Self::MIN_LEN, Self::ID)?;
+        if !ChannelGroupBlock::header_ok(header) {
+            return Err(MdfError::BlockSerializationError {
+                place: offset,
+                links_nr: header.links_nr,
+                block_len: header.block_len,
+            });
+        }
+        need_from_block(
+            file.len() as u64,
             offset,
-            ChannelGroupBlock::MIN_LEN,
-            ChannelGroupBlock::ID,
-        ) {
-            HeaderRead::Refused(e) => Extent::Refused(e),
-            HeaderRead::Header(header) => {
-                let links_nr = header.links_nr;
-                let block_len = header.block_len;
-                if ChannelGroupBlock::header_ok(links_nr, block_len) {
-                    let len = file.len() as u64;
-                    return need_from_block(len, offset, ChannelGroupBlock::FIXED_LEN, links_nr);
-                }
-                Extent::Refused(MdfError::BlockSerializationError {
-                    place: offset,
-                    links_nr,
-                    block_len,
-                })
-            }
-        }
-    }
-
-    pub fn parse(file: &[u8], offset: u64) -> ChannelGroupBlockRead
-        ensures { channel_group_block_read result ≡ parsed channel_group_block_of CG file.now offset }
-    {
-        match ChannelGroupBlock::extent(file, offset) {
-            Extent::Refused(e) => ChannelGroupBlockRead::Refused(e),
-            Extent::Bytes(n) => {
-                let at = offset as usize;
-                let end = at + n as usize;
-                ChannelGroupBlockRead::Block(ChannelGroupBlock::fields(&file[at..end]))
-            }
-        }
+            ChannelGroupBlock::FIXED_LEN,
+            header.links_nr,
+        )
     }
 }

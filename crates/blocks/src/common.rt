@@ -1,47 +1,28 @@
-// The block header, and what every parser begins with.
-ghost use Rattle.std.specs.Prelude.{◌≡◌, ℕ, ◌+◌, ◌≤◌, ◌-◌, ◌^◌, min, length};
+// The block header, what every parser begins with, and the trait of the blocks that are read as their fields.
+ghost use Rattle.std.specs.Prelude.{◌≡◌, List, ℕ, ◌≤◌, length};
+ghost use Rattle.mdf4.specs.Act.{Kind};
 ghost use Rattle.mdf4.specs.Kinds.{leads_to};
-ghost use Rattle.blocks.specs.Headers.{header_read, header_of, inside_or, marked_or};
+ghost use Rattle.blocks.specs.Errors.{told};
+ghost use Rattle.blocks.specs.Headers.{header_of, inside_or, marked_or};
+ghost use Rattle.blocks.specs.Parse.{parsed, IsOwn};
 
 use crate::error::MdfError;
 use crate::reader::Reader;
 use little_endian::{read_u32, read_u64};
 
-#[derive(Drop)]
+#[derive(Clone, Copy, Debug, PartialEq, Eq)]
 pub struct BlockHeader {
     pub id: u32,
     pub block_len: u64,
     pub links_nr: u64,
 }
 
-#[derive(Drop)]
-pub enum HeaderRead {
-    Header(BlockHeader),
-    Refused(MdfError),
-}
-
-pub fn wide(x: u32) -> u64
-    ensures { result ≡ x }
-{
-    x as u64
-}
-
 // Whether a link leads to a mark: `found` is 0, or 1 + the mark at its target.
+#[tactic(auto, unfolding(mdf4::specs::Kinds::leads_to))]
 pub fn leads_to(found: u64, id: u32) -> bool
     ensures { (t : ℕ) → result ≡ leads_to id (record { target = t; found = found }) }
 {
-    found == 1 + wide(id)
-}
-
-// a + b, or 2^64 - 1 where that passes it.
-pub fn saturating_add(a: u64, b: u64) -> u64
-    ensures { result ≡ min (a + b) (2 ^ 64 - 1) }
-{
-    if 0xffff_ffff_ffff_ffff - a < b {
-        0xffff_ffff_ffff_ffff
-    } else {
-        a + b
-    }
+    found == 1 + u64::from(id)
 }
 
 impl BlockHeader {
@@ -49,46 +30,74 @@ impl BlockHeader {
     pub const LEN: u64 = 24;
 
     // The fields of the first 24 bytes.
+    #[tactic(auto, unfolding(crate::specs::Headers::header_of, mdf4::specs::Kinds::block_len, mdf4::specs::Kinds::links_nr))]
     pub fn fields(b: &[u8]) -> BlockHeader
         requires { 24 ≤ length b.now }
         ensures { result ≡ header_of b.now }
     {
-        let id = read_u32(b, 0);
-        let block_len = read_u64(b, 8);
-        let links_nr = read_u64(b, 16);
         BlockHeader {
-            id,
-            block_len,
-            links_nr,
+            id: read_u32(b, 0),
+            block_len: read_u64(b, 8),
+            links_nr: read_u64(b, 16),
         }
     }
 
     // `bytes_at`, then the header: at least `needed` bytes have to be there.
-    pub fn parse(file: &[u8], offset: u64, needed: u64) -> HeaderRead
+    pub fn parse(file: &[u8], offset: u64, needed: u64) -> Result<BlockHeader, MdfError>
         requires { 24 ≤ needed }
-        ensures { header_read result ≡ inside_or file.now offset needed }
+        ensures { told result ≡ inside_or file.now offset needed }
     {
-        Reader::header(Reader::new(file, offset), needed)
+        Reader::new(file, offset).header(needed)
     }
 
     // The same, and the mark has to be `id`.
-    pub fn parse_marked(file: &[u8], offset: u64, needed: u64, id: u32) -> HeaderRead
+    #[tactic(auto, unfolding(crate::specs::Headers::marked_or, mdf4::specs::Act::and_then, mdf4::specs::Act::check))]
+    pub fn parse_marked(
+        file: &[u8],
+        offset: u64,
+        needed: u64,
+        id: u32,
+    ) -> Result<BlockHeader, MdfError>
         requires { 24 ≤ needed }
-        ensures { header_read result ≡ marked_or file.now offset needed id }
+        ensures { told result ≡ marked_or file.now offset needed id }
     {
-        match BlockHeader::parse(file, offset, needed) {
-            HeaderRead::Refused(e) => HeaderRead::Refused(e),
-            HeaderRead::Header(header) => {
-                let found = header.id;
-                if found == id {
-                    return HeaderRead::Header(header);
-                }
-                HeaderRead::Refused(MdfError::BlockIDError {
-                    place: offset,
-                    expected: wide(id),
-                    actual: wide(found),
-                })
-            }
+        let header = BlockHeader::parse(file, offset, needed)?;
+        if header.id != id {
+            return Err(MdfError::BlockIDError {
+                place: offset,
+                expected: u64::from(id),
+                actual: u64::from(header.id),
+            });
         }
+        Ok(header)
+    }
+}
+
+// A block that is read as the fields of its own bytes.
+pub trait BlockParse: Sized {
+    // Its mark, and the bytes that have to be there before its header is looked at.
+    const ID: u32;
+
+    const MIN_LEN: u64;
+
+    ghost kind: { Kind };
+
+    ghost fields_of: { List ℕ → Self };
+
+    // The fields of the block's own bytes.
+    fn fields(b: &[u8]) -> Self
+        requires { IsOwn kind b.now }
+        ensures { result ≡ fields_of b.now };
+
+    // How many bytes are the block's own.
+    fn extent(file: &[u8], offset: u64) -> Result<u64, MdfError>
+        ensures { told result ≡ parsed length kind file.now offset };
+
+    fn parse(file: &[u8], offset: u64) -> Result<Self, MdfError>
+        ensures { told result ≡ parsed fields_of kind file.now offset }
+    {
+        let len = Self::extent(file, offset)?;
+        let at = offset as usize;
+        Ok(Self::fields(&file[at..at + len as usize]))
     }
 }

@@ -4,9 +4,11 @@ ghost use Rattle.std.specs.Prelude.{◌≡◌, ℕ};
 ghost use Rattle.mdf4.specs.Act.{SD};
 ghost use Rattle.mdf4.specs.Kinds.{shape, leads_to};
 ghost use Rattle.mdf4.specs.Walk.{leads_to_data};
-ghost use Rattle.blocks.specs.Headers.{header_read, inside_or};
+ghost use Rattle.blocks.specs.Errors.{told};
+ghost use Rattle.blocks.specs.Headers.{inside_or};
 
-use crate::common::{BlockHeader, HeaderRead, leads_to};
+use crate::common::{BlockHeader, leads_to};
+use crate::error::MdfError;
 
 #[derive(Drop)]
 pub struct DataBlock {}
@@ -30,30 +32,26 @@ impl DataBlock {
     pub const MIN_LEN: u64 = BlockHeader::LEN;
 
     // Whether a link leads to data with records, by what was found at its target.
+    #[tactic(auto, unfolding(mdf4::specs::Walk::leads_to_data, mdf4::specs::Bytes::little))]
     pub fn is_target(found: u64) -> bool
         ensures { (t : ℕ) → result ≡ leads_to_data (record { target = t; found = found }) }
     {
-        if leads_to(found, DataBlock::DT) {
-            return true;
-        }
-        if leads_to(found, DataBlock::DV) {
-            return true;
-        }
-        if leads_to(found, DataBlock::RD) {
-            return true;
-        }
-        leads_to(found, DataBlock::RV)
+        leads_to(found, DataBlock::DT)
+            || leads_to(found, DataBlock::DV)
+            || leads_to(found, DataBlock::RD)
+            || leads_to(found, DataBlock::RV)
     }
 
     // The same of signal data.
+    #[tactic(auto, unfolding(mdf4::specs::Kinds::shape, mdf4::specs::Bytes::little))]
     pub fn is_signal_target(found: u64) -> bool
         ensures { (t : ℕ) → result ≡ leads_to (shape SD).mark (record { target = t; found = found }) }
     {
         leads_to(found, DataBlock::SD)
     }
 
-    pub fn parse(file: &[u8], offset: u64) -> HeaderRead
-        ensures { header_read result ≡ inside_or file.now offset 24 }
+    pub fn parse(file: &[u8], offset: u64) -> Result<BlockHeader, MdfError>
+        ensures { told result ≡ inside_or file.now offset 24 }
     {
         BlockHeader::parse(file, offset, DataBlock::MIN_LEN)
     }

@@ -1,14 +1,14 @@
 // A data group, ##DG, as data_group_block.rs reads it.
 ghost use Rattle.std.specs.Prelude.{◌≡◌, ◌≤◌, length};
 ghost use Rattle.mdf4.specs.Act.{DG};
-ghost use Rattle.blocks.specs.Parse.{parsed};
-ghost use Rattle.blocks.specs.DataGroupBlock.{data_group_block_read, data_group_block_of};
+ghost use Rattle.blocks.specs.DataGroupBlock.{data_group_block_of};
 
-use crate::common::{BlockHeader, HeaderRead};
+use crate::common::BlockParse;
 use crate::error::MdfError;
+use crate::extent::fixed_extent;
 use little_endian::{read_u8, read_u64};
 
-#[derive(Drop)]
+#[derive(Clone, Copy, Debug, PartialEq, Eq)]
 pub struct DataGroupBlock {
     pub block_len: u64,
     pub next_dg_addr: u64,
@@ -18,20 +18,18 @@ pub struct DataGroupBlock {
     pub record_id_len: u8,
 }
 
-#[derive(Drop)]
-pub enum DataGroupBlockRead {
-    Block(DataGroupBlock),
-    Refused(MdfError),
-}
-
-impl DataGroupBlock {
+impl BlockParse for DataGroupBlock {
     // "##DG"
-    pub const ID: u32 = 0x4744_2323;
+    const ID: u32 = 0x4744_2323;
 
-    pub const MIN_LEN: u64 = 64;
+    const MIN_LEN: u64 = 64;
 
-    // The fields of the block's own bytes.
-    pub fn fields(b: &[u8]) -> DataGroupBlock
+    ghost kind = { DG };
+
+    ghost fields_of = { data_group_block_of };
+
+    #[tactic(auto, unfolding(crate::specs::DataGroupBlock::data_group_block_of, mdf4::specs::Kinds::block_len))]
+    fn fields(b: &[u8]) -> DataGroupBlock
         requires { 64 ≤ length b.now }
         ensures { result ≡ data_group_block_of b.now }
     {
@@ -45,16 +43,7 @@ impl DataGroupBlock {
         }
     }
 
-    pub fn parse(file: &[u8], offset: u64) -> DataGroupBlockRead
-        ensures { data_group_block_read result ≡ parsed data_group_block_of DG file.now offset }
-    {
-        match BlockHeader::parse_marked(file, offset, DataGroupBlock::MIN_LEN, DataGroupBlock::ID) {
-            HeaderRead::Refused(e) => DataGroupBlockRead::Refused(e),
-            HeaderRead::Header(header) => {
-                let at = offset as usize;
-                let end = at + DataGroupBlock::MIN_LEN as usize;
-                DataGroupBlockRead::Block(DataGroupBlock::fields(&file[at..end]))
-            }
-        }
+    fn extent(file: &[u8], offset: u64) -> Result<u64, MdfError> {
+        fixed_extent(file, offset, Self::MIN_LEN, Self::ID)
     }
 }

@@ -3,17 +3,16 @@ ghost use Rattle.std.specs.Prelude.{◌≡◌, cond, ℕ, ◌+◌, ◌*◌, ◌%
 ghost use Rattle.mdf4.specs.Bytes.{num};
 ghost use Rattle.mdf4.specs.Act.{DL};
 ghost use Rattle.mdf4.specs.Kinds.{shape, leads_to};
-ghost use Rattle.blocks.specs.Parse.{parsed};
-ghost use Rattle.blocks.specs.Extents.{extent_read};
-ghost use Rattle.blocks.specs.DataListBlock.{data_list_block_read, data_list_block_of, behind_links, ListFits};
+ghost use Rattle.blocks.specs.Errors.{told};
+ghost use Rattle.blocks.specs.DataListBlock.{data_list_block_of, behind_links, ListFits};
 
-use crate::common::{BlockHeader, HeaderRead, leads_to, wide};
+use crate::common::{BlockHeader, BlockParse, leads_to};
 use crate::error::MdfError;
-use crate::extent::{Extent, need_from_block};
+use crate::extent::need_from_block;
 use crate::reader::Reader;
 use little_endian::{read_u8, read_u32, read_u64};
 
-#[derive(Drop)]
+#[derive(Clone, Copy, Debug, PartialEq, Eq)]
 pub struct DataListBlock {
     pub block_len: u64,
     pub links_nr: u64,
@@ -24,22 +23,12 @@ pub struct DataListBlock {
     pub data_block_len: u64,
 }
 
-#[derive(Drop)]
-pub enum DataListBlockRead {
-    Block(DataListBlock),
-    Refused(MdfError),
-}
-
 impl DataListBlock {
-    // "##DL"
-    pub const ID: u32 = 0x4c44_2323;
-
-    pub const MIN_LEN: u64 = BlockHeader::LEN;
-
     // What is read beside the links and the words behind them: the header, flags and count.
     pub const FIXED_LEN: u64 = BlockHeader::LEN + 8;
 
     // Whether a link leads to a data list, by what was found at its target.
+    #[tactic(auto, unfolding(mdf4::specs::Kinds::shape, mdf4::specs::Bytes::little))]
     pub fn is_target(found: u64) -> bool
         ensures { (t : ℕ) → result ≡ leads_to (shape DL).mark (record { target = t; found = found }) }
     {
@@ -51,7 +40,7 @@ impl DataListBlock {
         requires { offset + 24 + 8 * i + 8 ≤ length file.now }
         ensures { result ≡ num file.now (offset + 24 + 8 * i) 8 }
     {
-        Reader::u64_at(Reader::new(file, offset), 24 + 8 * i)
+        Reader::new(file, offset).u64_at(24 + 8 * i)
     }
 
     // The words of 8 bytes behind the count: the equal length, or an offset for each data block.
@@ -59,9 +48,10 @@ impl DataListBlock {
         ensures { result ≡ cond (eqb (flags % 2) 1) 1 data_block_nr }
     {
         if flags % 2 == 1 {
-            return 1;
+            1
+        } else {
+            u64::from(data_block_nr)
         }
-        wide(data_block_nr)
     }
 
     // The equal length at `at`.
@@ -69,14 +59,35 @@ impl DataListBlock {
         requires { flags % 2 ≡ 1 → at + 8 ≤ length b.now }
         ensures { result ≡ cond (eqb (flags % 2) 1) (num b.now at 8) 0 }
     {
-        if flags % 2 == 1 {
-            return read_u64(b, at);
-        }
-        0
+        if flags % 2 == 1 { read_u64(b, at) } else { 0 }
     }
 
-    // The fields of the block's own bytes.
-    pub fn fields(b: &[u8]) -> DataListBlock
+    // Both length tests: for the links and what the flags ask for behind them.
+    #[tactic(auto, using(crate::proofs::Extents::need_ok))]
+    fn behind_links(file: &[u8], offset: u64, links_nr: u64) -> Result<u64, MdfError>
+        requires { offset ≤ length file.now }
+        ensures { told result ≡ behind_links file.now offset links_nr }
+    {
+        let len = file.len() as u64;
+        let n = need_from_block(len, offset, DataListBlock::FIXED_LEN, links_nr)?;
+        let at = offset as usize + 24 + 8 * links_nr as usize;
+        let words = DataListBlock::words(read_u8(file, at), read_u32(file, at + 4));
+        need_from_block(len, offset, n, words)
+    }
+}
+
+impl BlockParse for DataListBlock {
+    // "##DL"
+    const ID: u32 = 0x4c44_2323;
+
+    const MIN_LEN: u64 = BlockHeader::LEN;
+
+    ghost kind = { DL };
+
+    ghost fields_of = { data_list_block_of };
+
+    #[tactic(auto, unfolding(crate::specs::DataListBlock::data_list_block_of, mdf4::specs::Kinds::block_len, mdf4::specs::Kinds::links_nr, mdf4::specs::Kinds::data_at))]
+    fn fields(b: &[u8]) -> DataListBlock
         requires { ListFits b.now }
         ensures { result ≡ data_list_block_of b.now }
     {
@@ -93,52 +104,15 @@ impl DataListBlock {
         }
     }
 
-    // Both length tests: for the links and what the flags ask for behind them.
-    fn behind_links(file: &[u8], offset: u64, links_nr: u64) -> Extent
-        requires { offset ≤ length file.now }
-        ensures { extent_read result ≡ behind_links file.now offset links_nr }
-    {
-        let len = file.len() as u64;
-        match need_from_block(len, offset, DataListBlock::FIXED_LEN, links_nr) {
-            Extent::Refused(e) => Extent::Refused(e),
-            Extent::Bytes(n) => {
-                let at = offset as usize + 24 + 8 * links_nr as usize;
-                let words = DataListBlock::words(read_u8(file, at), read_u32(file, at + 4));
-                need_from_block(len, offset, n, words)
-            }
+    fn extent(file: &[u8], offset: u64) -> Result<u64, MdfError> {
+        let header = BlockHeader::parse(file, offset, Self::MIN_LEN)?;
+        if header.links_nr == 0 {
+            return Err(MdfError::BlockSerializationError {
+                place: offset,
+                links_nr: header.links_nr,
+                block_len: header.block_len,
+            });
         }
-    }
-
-    // How many bytes are the block's own.
-    fn extent(file: &[u8], offset: u64) -> Extent
-        ensures { extent_read result ≡ parsed length DL file.now offset }
-    {
-        match BlockHeader::parse(file, offset, DataListBlock::MIN_LEN) {
-            HeaderRead::Refused(e) => Extent::Refused(e),
-            HeaderRead::Header(header) => {
-                let links_nr = header.links_nr;
-                if links_nr == 0 {
-                    return Extent::Refused(MdfError::BlockSerializationError {
-                        place: offset,
-                        links_nr,
-                        block_len: header.block_len,
-                    });
-                }
-                DataListBlock::behind_links(file, offset, links_nr)
-            }
-        }
-    }
-
-    pub fn parse(file: &[u8], offset: u64) -> DataListBlockRead
-        ensures { data_list_block_read result ≡ parsed data_list_block_of DL file.now offset }
-    {
-        match DataListBlock::extent(file, offset) {
-            Extent::Refused(e) => DataListBlockRead::Refused(e),
-            Extent::Bytes(n) => {
-                let at = offset as usize;
-                let end = at + n as usize;
-                DataListBlockRead::Block(DataListBlock::fields(&file[at..end]))
-            }
-        }
+        DataListBlock::behind_links(file, offset, header.links_nr)
     }
 }

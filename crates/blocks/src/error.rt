@@ -2,9 +2,30 @@
 // 02's orders. The definition `numbers` of specs/Errors.antt gives the papers' number, place, a and b of each.
 ghost use Rattle.std.specs.Prelude.{◌≡◌};
 ghost use Rattle.mdf4.specs.Act as spec;
-ghost use Rattle.blocks.specs.Errors.{numbers, refusal_of};
+ghost use Rattle.blocks.specs.Errors.{numbers, part_number, refusal_of};
 
-#[derive(Drop)]
+// What is wrong with a version's text: it is no UTF-8, or one of its two parts is no number.
+#[derive(Clone, Copy, Debug, PartialEq, Eq)]
+pub enum VersionPart {
+    Utf8,
+    Major,
+    Minor,
+}
+
+// Document 01's numbers of them.
+impl From<VersionPart> for u64 {
+    ghost from_gives = { λ p n. n ≡ part_number p };
+
+    fn from(part: VersionPart) -> u64 {
+        match part {
+            VersionPart::Utf8 => 1,
+            VersionPart::Major => 2,
+            VersionPart::Minor => 3,
+        }
+    }
+}
+
+#[derive(Clone, Copy, Debug, PartialEq, Eq)]
 pub enum MdfError {
     TooShortBuffer {
         place: u64,
@@ -12,9 +33,8 @@ pub enum MdfError {
         actual: u64,
     },
     FileIdentifierError,
-    // 1 for bad UTF-8, 2 for the major part, 3 for the minor part
     InvalidVersionString {
-        part: u64,
+        part: VersionPart,
     },
     FileVersioningError {
         number: u64,
@@ -71,7 +91,7 @@ pub enum MdfError {
 }
 
 // Document 01's four numbers of a refusal.
-#[derive(Drop)]
+#[derive(Clone, Copy, Debug, PartialEq, Eq)]
 pub struct Refusal {
     pub number: u64,
     pub place: u64,
@@ -101,7 +121,7 @@ impl MdfError {
                 actual,
             } => four(1, place, expected, actual),
             MdfError::FileIdentifierError => four(2, 0, 0, 0),
-            MdfError::InvalidVersionString { part } => four(3, 8, part, 0),
+            MdfError::InvalidVersionString { part } => four(3, 8, u64::from(part), 0),
             MdfError::FileVersioningError { number } => four(4, 8, number, 0),
             MdfError::BlockIDError {
                 place,

@@ -1,14 +1,14 @@
 // The header, ##HD, as header_block.rs reads it.
 ghost use Rattle.std.specs.Prelude.{◌≡◌, ◌≤◌, length};
 ghost use Rattle.mdf4.specs.Act.{HD};
-ghost use Rattle.blocks.specs.Parse.{parsed};
-ghost use Rattle.blocks.specs.HeaderBlock.{header_block_read, header_block_of};
+ghost use Rattle.blocks.specs.HeaderBlock.{header_block_of};
 
-use crate::common::{BlockHeader, HeaderRead};
+use crate::common::BlockParse;
 use crate::error::MdfError;
+use crate::extent::fixed_extent;
 use little_endian::{read_i16, read_u8, read_u64};
 
-#[derive(Drop)]
+#[derive(Clone, Copy, Debug, PartialEq, Eq)]
 pub struct HeaderBlock {
     pub first_dg_addr: u64,
     pub file_history_addr: u64,
@@ -23,20 +23,18 @@ pub struct HeaderBlock {
     pub flags: u8,
 }
 
-#[derive(Drop)]
-pub enum HeaderBlockRead {
-    Block(HeaderBlock),
-    Refused(MdfError),
-}
-
-impl HeaderBlock {
+impl BlockParse for HeaderBlock {
     // "##HD"
-    pub const ID: u32 = 0x4448_2323;
+    const ID: u32 = 0x4448_2323;
 
-    pub const MIN_LEN: u64 = 104;
+    const MIN_LEN: u64 = 104;
 
-    // The fields of the block's own bytes.
-    pub fn fields(b: &[u8]) -> HeaderBlock
+    ghost kind = { HD };
+
+    ghost fields_of = { header_block_of };
+
+    #[tactic(auto, unfolding(crate::specs::HeaderBlock::header_block_of))]
+    fn fields(b: &[u8]) -> HeaderBlock
         requires { 104 ≤ length b.now }
         ensures { result ≡ header_block_of b.now }
     {
@@ -55,16 +53,7 @@ impl HeaderBlock {
         }
     }
 
-    pub fn parse(file: &[u8], offset: u64) -> HeaderBlockRead
-        ensures { header_block_read result ≡ parsed header_block_of HD file.now offset }
-    {
-        match BlockHeader::parse_marked(file, offset, HeaderBlock::MIN_LEN, HeaderBlock::ID) {
-            HeaderRead::Refused(e) => HeaderBlockRead::Refused(e),
-            HeaderRead::Header(header) => {
-                let at = offset as usize;
-                let end = at + HeaderBlock::MIN_LEN as usize;
-                HeaderBlockRead::Block(HeaderBlock::fields(&file[at..end]))
-            }
-        }
+    fn extent(file: &[u8], offset: u64) -> Result<u64, MdfError> {
+        fixed_extent(file, offset, Self::MIN_LEN, Self::ID)
     }
 }

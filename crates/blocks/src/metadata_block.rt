@@ -1,48 +1,37 @@
 // Metadata, ##MD, as metadata_block.rs reads it.
-ghost use Rattle.mdf4.specs.Act.{MD};
+ghost use Rattle.std.specs.Prelude.{◌≡◌, IfOk, IfErr};
+ghost use Rattle.mdf4.specs.Act.{err, MD};
+ghost use Rattle.mdf4.specs.Kinds.{read_block};
 ghost use Rattle.mdf4.specs.Describe.{md_text};
-ghost use Rattle.blocks.specs.TextBlock.{TextRead};
-ghost use Rattle.blocks.specs.MetadataBlock.{metadata_block_read};
+ghost use Rattle.blocks.specs.Errors.{numbers};
+ghost use Rattle.blocks.specs.TextBlock.{TextAt};
 
 use crate::common::BlockHeader;
 use crate::error::MdfError;
-use crate::text_block::{TextRangeRead, text_range};
+use crate::text_block::text_range;
 use utf8::trim_nuls;
 
-// The XML is the part (from, to) of the file.
-#[derive(Drop)]
-pub struct MetadataBlock {
+#[derive(Clone, Copy)]
+pub struct MetadataBlock<'a> {
     pub block_len: u64,
-    pub from: usize,
-    pub to: usize,
+    pub xml: &'a [u8],
 }
 
-#[derive(Drop)]
-pub enum MetadataBlockRead {
-    Block(MetadataBlock),
-    Refused(MdfError),
-}
-
-impl MetadataBlock {
+impl<'a> MetadataBlock<'a> {
     // "##MD"
     pub const ID: u32 = 0x444d_2323;
 
     pub const MIN_LEN: u64 = BlockHeader::LEN;
 
     // NULs are off both ends.
-    pub fn parse(file: &[u8], offset: u64) -> MetadataBlockRead
-        ensures { TextRead MD md_text file.now offset (metadata_block_read result) }
+    pub fn parse(file: &'a [u8], offset: u64) -> Result<MetadataBlock<'a>, MdfError>
+        ensures read { IfOk result (λ b. TextAt MD md_text file.now offset b.block_len b.xml.now) }
+        ensures refused { IfErr result (λ e. read_block MD file.now offset ≡ err (numbers e)) }
     {
-        match text_range(file, offset, MetadataBlock::MIN_LEN) {
-            TextRangeRead::Refused(e) => MetadataBlockRead::Refused(e),
-            TextRangeRead::Range(range) => {
-                let xml = trim_nuls(file, range.from, range.to);
-                MetadataBlockRead::Block(MetadataBlock {
-                    block_len: range.block_len,
-                    from: xml.from,
-                    to: xml.to,
-                })
-            }
-        }
+        let range = text_range(file, offset, MetadataBlock::MIN_LEN)?;
+        Ok(MetadataBlock {
+            block_len: range.block_len,
+            xml: trim_nuls(range.text),
+        })
     }
 }

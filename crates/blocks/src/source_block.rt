@@ -2,16 +2,14 @@
 ghost use Rattle.std.specs.Prelude.{◌≡◌, cond, ◌+◌, ◌*◌, ◌≤◌, ltb, length};
 ghost use Rattle.mdf4.specs.Bytes.{num};
 ghost use Rattle.mdf4.specs.Act.{SI};
-ghost use Rattle.blocks.specs.Parse.{parsed};
-ghost use Rattle.blocks.specs.Extents.{extent_read};
-ghost use Rattle.blocks.specs.SourceBlock.{source_block_read, source_block_of};
+ghost use Rattle.blocks.specs.SourceBlock.{source_block_of};
 
-use crate::common::{BlockHeader, HeaderRead};
+use crate::common::{BlockHeader, BlockParse};
 use crate::error::MdfError;
-use crate::extent::{Extent, need_from_block};
+use crate::extent::need_from_block;
 use little_endian::{read_u8, read_u64};
 
-#[derive(Drop)]
+#[derive(Clone, Copy, Debug, PartialEq, Eq)]
 pub struct SourceBlock {
     pub block_len: u64,
     pub name_addr: u64,
@@ -22,18 +20,7 @@ pub struct SourceBlock {
     pub flags: u8,
 }
 
-#[derive(Drop)]
-pub enum SourceBlockRead {
-    Block(SourceBlock),
-    Refused(MdfError),
-}
-
 impl SourceBlock {
-    // "##SI"
-    pub const ID: u32 = 0x4953_2323;
-
-    pub const MIN_LEN: u64 = BlockHeader::LEN;
-
     // What is read beside the links: the header and 3 bytes of data.
     pub const FIXED_LEN: u64 = BlockHeader::LEN + 3;
 
@@ -43,14 +30,25 @@ impl SourceBlock {
         ensures { result ≡ cond (ltb i links_nr) (num b.now (24 + 8 * i) 8) 0 }
     {
         if i < links_nr {
-            let at = 24 + 8 * i as usize;
-            return read_u64(b, at);
+            read_u64(b, 24 + 8 * i as usize)
+        } else {
+            0
         }
-        0
     }
+}
 
-    // The fields of the block's own bytes.
-    pub fn fields(b: &[u8]) -> SourceBlock
+impl BlockParse for SourceBlock {
+    // "##SI"
+    const ID: u32 = 0x4953_2323;
+
+    const MIN_LEN: u64 = BlockHeader::LEN;
+
+    ghost kind = { SI };
+
+    ghost fields_of = { source_block_of };
+
+    #[tactic(auto, unfolding(crate::specs::SourceBlock::source_block_of, mdf4::specs::Kinds::block_len, mdf4::specs::Kinds::links_nr, mdf4::specs::Kinds::data_at, mdf4::specs::Kinds::shape), using(crate::proofs::SourceBlock::three))]
+    fn fields(b: &[u8]) -> SourceBlock
         requires { 24 + 8 * num b.now 16 8 + 3 ≤ length b.now }
         ensures { result ≡ source_block_of b.now }
     {
@@ -67,29 +65,13 @@ impl SourceBlock {
         }
     }
 
-    // How many bytes are the block's own.
-    fn extent(file: &[u8], offset: u64) -> Extent
-        ensures { extent_read result ≡ parsed length SI file.now offset }
-    {
-        match BlockHeader::parse_marked(file, offset, SourceBlock::MIN_LEN, SourceBlock::ID) {
-            HeaderRead::Refused(e) => Extent::Refused(e),
-            HeaderRead::Header(header) => {
-                let len = file.len() as u64;
-                need_from_block(len, offset, SourceBlock::FIXED_LEN, header.links_nr)
-            }
-        }
-    }
-
-    pub fn parse(file: &[u8], offset: u64) -> SourceBlockRead
-        ensures { source_block_read result ≡ parsed source_block_of SI file.now offset }
-    {
-        match SourceBlock::extent(file, offset) {
-            Extent::Refused(e) => SourceBlockRead::Refused(e),
-            Extent::Bytes(n) => {
-                let at = offset as usize;
-                let end = at + n as usize;
-                SourceBlockRead::Block(SourceBlock::fields(&file[at..end]))
-            }
-        }
+    fn extent(file: &[u8], offset: u64) -> Result<u64, MdfError> {
+        let header = BlockHeader::parse_marked(file, offset, Self::MIN_LEN, Self::ID)?;
+        need_from_block(
+            file.len() as u64,
+            offset,
+            SourceBlock::FIXED_LEN,
+            header.links_nr,
+        )
     }
 }

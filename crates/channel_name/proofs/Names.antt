@@ -6,12 +6,11 @@ use Prim.Native.Nat.{ℕ, ◌+◌, ◌-◌, ◌^◌, ◌≤◌, ◌<◌, max}
 use native.Mathlib.Omega.{arith}
 use lib.Dec.{leb, ltb, eqb}
 use lib.ListN.{length, take, drop, length-take, length-drop}
-use lib.Seq.{slice, take_all}
-use borrow.Author.Tests.{le-leb, lt-leb, lt-ltb, le-ltb, eq-eqb, ne_eqb, ltb-true, ltb-false}
+use lib.Seq.{take_all}
+use borrow.Author.Tests.{le-leb, lt-leb, lt-ltb, le-ltb, eq-eqb, ne_eqb, leb-true, leb-false, ltb-true, ltb-false}
 use Rattle.utf8.specs.Utf8.{chunks_after, chunks, shown_all, lossy}
 use Rattle.utf8.specs.White.{drop_end}
 use Rattle.utf8.specs.Nul.{trim_start_nuls, trim_end_nuls, trim_nuls}
-use Rattle.utf8.specs.Part.{NulsOff}
 use Rattle.mdf4.specs.Bytes.{bytes, little, num}
 use Rattle.mdf4.specs.Act.{Refusal, Out, ok, err, refusal, and_then, check, Link, TX}
 use Rattle.mdf4.specs.Kinds.{shape, block_len, make_link, leads_to, name_is_text, name_head, name_check, name_len}
@@ -24,6 +23,7 @@ use Rattle.blocks.specs.declared.common.BlockHeader.{BlockHeader}
 use Rattle.blocks.specs.Headers.{header_of}
 use Rattle.channel_name.specs.Name.{name_at}
 use Rattle.blocks.proofs.Told.{ok_is, ok_only}
+use Rattle.blocks.proofs.Parts.{cut_slice}
 use Rattle.blocks.proofs.Texts.{len_is, tail}
 
 nameless : name_text [] ≡ []
@@ -99,14 +99,14 @@ module _ (r : List ℕ) (a : ℕ) (some : a ≡ 0 → ⊥) where
           unfolding bytes
           length_is n l = rw (length-take, length-drop) (omega arith)
 
-          pub name_short : long < 24 → ok [] ≡ name_at r (make_link r a)
+          name_short : long < 24 → ok [] ≡ name_at r (make_link r a)
           unfolding name_at and_then make_link
           name_short l =
               let d : block_len (name_head r (make_link r a)) < 24 = rw (head_is r (make_link r a) is_text, long_is 24 (omega arith)) l in
               rw (short_accepted r (make_link r a) is_text d fits, short_empty r (make_link r a) is_text d)
 
           module _ (least : 24 ≤ long) where
-            pub name_beyond : length r < a + long → ok [] ≡ name_at r (make_link r a)
+            name_beyond : length r < a + long → ok [] ≡ name_at r (make_link r a)
             unfolding and_then check name_text
             name_beyond l =
                 let m : max 24 long ≡ long = omega arith in
@@ -120,9 +120,9 @@ module _ (r : List ℕ) (a : ℕ) (some : a ≡ 0 → ⊥) where
                   lt-leb long 24 (omega arith),
                 )
 
-            pub name_whole : a + long ≤ length r → {from to : ℕ} → NulsOff r (a + 24) (a + long) from to → ok (lossy (slice from to r)) ≡ name_at r (make_link r a)
+            pub name_whole : a + long ≤ length r → {t : List ℕ} → t ≡ trim_nuls (take (a + long - (a + 24)) (drop (a + 24) r)) → ok (lossy t) ≡ name_at r (make_link r a)
             unfolding and_then check name_text
-            name_whole l b =
+            name_whole l e =
                 let m : max 24 long ≡ long = omega arith in
                 rw (
                   checked,
@@ -134,8 +134,17 @@ module _ (r : List ℕ) (a : ℕ) (some : a ≡ 0 → ⊥) where
                   le-leb long long (omega arith),
                   take_all long (bytes r a long) (omega (arith, length_is long l)),
                   ← (tail r a long),
-                  b.text,
+                  e,
+                  cut_slice r (a + 24) (a + long) (omega arith),
                 )
+
+          -- too short, or past the file's end
+          pub name_unread : (24 ≤ long → length r < a + long) → ok [] ≡ name_at r (make_link r a)
+          name_unread o = go (leb 24 long) refl
+            where
+              go : (t : Bool) → leb 24 long ≡ t → ok [] ≡ name_at r (make_link r a)
+              go true h = let l = leb-true 24 long h in name_beyond l (o l)
+              go false h = name_short (leb-false 24 long h)
 
 -- what the walk asks of a name is the same
 pub name_passed : (r : List ℕ) (l : Link) {x : List ℕ} → ok x ≡ name_at r l → name_check (length r) l (name_head r l) ≡ ok tt

@@ -1,64 +1,48 @@
 // A channel's name, as read_text_at of block_layout.rs reads it.
 #![tactic(auto)]
 
-ghost use Rattle.std.specs.Prelude.{◌≡◌};
-ghost use Rattle.channel_name.specs.Name.{Named};
+ghost use Rattle.std.specs.Prelude.{◌≡◌, IfOk, IfSome};
+ghost use Rattle.utf8.specs.Parts.{IsPart};
+ghost use Rattle.mdf4.specs.Kinds.{make_link};
+ghost use Rattle.channel_name.specs.Name.{name_at, name_read};
 ghost use Rattle.blocks.specs.declared.error.MdfError.TheVariants.{SumOverflow};
-ghost use Rattle.channel_name.specs.declared.NameRead.TheVariants.{Refused};
 
 use blocks::common::BlockHeader;
 use blocks::error::MdfError;
 use blocks::text_block::TextBlock;
 use utf8::trim_nuls;
 
-#[derive(Drop)]
-pub enum NameRead {
-    // the part (from, to) of the file
-    Text { from: usize, to: usize },
-    // no text is read: the name is empty
-    None,
-    Refused(MdfError),
-}
-
-fn past_u64(a: u64, b: u64) -> NameRead
-    ensures { result ≡ Refused (SumOverflow a a b) }
+fn past_u64(a: u64, b: u64) -> MdfError
+    ensures { result ≡ SumOverflow a a b }
 {
-    NameRead::Refused(MdfError::SumOverflow { place: a, a, b })
+    MdfError::SumOverflow { place: a, a, b }
 }
 
-// NULs are off both ends of the name. Where the Rust panics, on a block_len under 24, it is empty (document 02, order 2).
-pub fn read_text_at(file: &[u8], addr: u64) -> NameRead
-    ensures { Named file.now addr result }
+// The name's bytes, NULs off both ends; none where no text is read: the name is then empty. Where the Rust panics, on a
+// block_len under 24, there is none (document 02, order 2).
+pub fn read_text_at(file: &[u8], addr: u64) -> Result<Option<&[u8]>, MdfError>
+    ensures says { name_read result ≡ name_at file.now (make_link file.now addr) }
+    ensures part { IfOk result (λ name. IfSome name (λ text. IsPart file.now text.now)) }
 {
     if addr == 0 {
-        return NameRead::None;
+        return Ok(None);
     }
-    if 0xffff_ffff_ffff_ffff - addr < TextBlock::MIN_LEN {
-        return past_u64(addr, TextBlock::MIN_LEN);
-    }
+    let Some(from) = addr.checked_add(TextBlock::MIN_LEN) else {
+        return Err(past_u64(addr, TextBlock::MIN_LEN));
+    };
     let len = file.len() as u64;
-    if len < addr + TextBlock::MIN_LEN {
-        return NameRead::None;
+    if len < from {
+        return Ok(None);
     }
-    let at = addr as usize;
-    let from = at + TextBlock::MIN_LEN as usize;
-    let header = BlockHeader::fields(&file[at..from]);
+    let header = BlockHeader::fields(&file[addr as usize..from as usize]);
     if header.id != TextBlock::ID {
-        return NameRead::None;
+        return Ok(None);
     }
-    let block_len = header.block_len;
-    if 0xffff_ffff_ffff_ffff - addr < block_len {
-        return past_u64(addr, block_len);
+    let Some(end) = addr.checked_add(header.block_len) else {
+        return Err(past_u64(addr, header.block_len));
+    };
+    if end < from || len < end {
+        return Ok(None);
     }
-    if block_len < TextBlock::MIN_LEN {
-        return NameRead::None;
-    }
-    if len < addr + block_len {
-        return NameRead::None;
-    }
-    let name = trim_nuls(file, from, (addr + block_len) as usize);
-    NameRead::Text {
-        from: name.from,
-        to: name.to,
-    }
+    Ok(Some(trim_nuls(&file[from as usize..end as usize])))
 }

@@ -1,37 +1,26 @@
--- `digits` meets its contract: at each turn what is left gives the number of the whole.
-use mathlib.Core.Path.{sym, ◌∙◌}
+-- `digits` meets its contract: at each turn what is read so far makes `sum`.
 use native.Mathlib.Omega.{arith}
 use Rattle.utf8.proofs.Rules.{tests}
 use Rattle.mdf4.specs.Act.{refusal}
-use Rattle.blocks.proofs.Version.{number_next, number_big, number_bad, number_none}
+use Rattle.blocks.specs.Errors.{part_number}
+use Rattle.blocks.proofs.Version.{numeral_none, digits_start, digits_done, digits_bad, digits_next, digits_big}
+use Rattle.blocks.proofs.identification_block.digits.Goals.{then-b-lt48-via-then-b-lt48, then-b-lt48-via-else-b-lt48+then-b-gt57}
 use Rattle.blocks.proofs.identification_block.digits.Goals as goal
 
-pub returns-then-b-lt48 : goal.returns-then-b-lt48
-returns-then-b-lt48 c =
-    let a = c.args in
-    let l = c.loop-i in
-    sym (number_bad (refusal 3 8 a.part 0) a.s.now l.i a.end l.sum (omega arith) (omega arith) (search tests)) ∙ l.invariant.3
+pub returns-then-is_empty : goal.returns-then-is_empty
+returns-then-is_empty c = numeral_none (refusal 3 8 (part_number c.args.part) 0) c.args.text.now (search tests)
 
-pub returns-then-b-gt57 : goal.returns-then-b-gt57
-returns-then-b-gt57 c =
-    let a = c.args in
-    let l = c.loop-i in
-    sym (number_bad (refusal 3 8 a.part 0) a.s.now l.i a.end l.sum (omega arith) (omega arith) (search tests)) ∙ l.invariant.3
+pub loop-b-init : goal.loop-b-init
+loop-b-init c = digits_start (refusal 3 8 (part_number c.args.part) 0) c.args.text.now (search tests)
+
+pub returns-then-b-lt48 : goal.returns-then-b-lt48
+returns-then-b-lt48 c = digits_bad c.loop-b.invariant (omega arith) (search tests)
 
 pub returns-then-sum-gt65535 : goal.returns-then-sum-gt65535
-returns-then-sum-gt65535 c =
-    let a = c.args in
-    let l = c.loop-i in
-    sym (number_big (refusal 3 8 a.part 0) a.s.now l.i a.end l.sum (omega arith) (omega arith) (search tests) (omega arith)) ∙ l.invariant.3
+returns-then-sum-gt65535 c = digits_big c.loop-b.invariant (omega arith) (search tests) (omega arith)
 
-pub loop-i-preserved : goal.loop-i-preserved
-loop-i-preserved c =
-    let a = c.args in
-    let l = c.loop-i in
-    (omega arith, omega arith, omega arith, sym (number_next (refusal 3 8 a.part 0) a.s.now l.i a.end l.sum (omega arith) (omega arith) (search tests) (omega arith)) ∙ l.invariant.3)
+pub loop-b-preserved : goal.loop-b-preserved
+loop-b-preserved c = rw c.from.ensures (digits_next c.loop-b.invariant (omega arith) (search tests) (omega arith))
 
 pub returns : goal.returns
-returns c =
-    let a = c.args in
-    let l = c.loop-i in
-    sym (number_none (refusal 3 8 a.part 0) a.s.now l.i a.end l.sum (omega arith)) ∙ l.invariant.3
+returns c = digits_done c.loop-b.invariant (omega arith)

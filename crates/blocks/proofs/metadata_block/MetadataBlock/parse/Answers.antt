@@ -1,20 +1,16 @@
--- `MetadataBlock::parse` meets its contract: the range's refusal, or the range without its NULs.
-use Rattle.blocks.specs.TextBlock.{text_range_read}
-use Rattle.blocks.proofs.Told.{told_as}
-use Rattle.blocks.proofs.Texts.{range_inside, md_at, md_refused}
+-- `MetadataBlock::parse` meets its contract: the text's refusal, or what stands behind the header without NULs at its ends.
+use mathlib.Core.Path.{◌≡◌}
+use Rattle.mdf4.specs.Act.{err, MD}
+use Rattle.mdf4.specs.Kinds.{read_block}
+use Rattle.blocks.proofs.Told.{refused_on}
+use Rattle.blocks.proofs.Texts.{md_at, md_read}
 use Rattle.blocks.proofs.metadata_block.MetadataBlock.parse.Goals as goal
 
-pub trim_nuls-xml-requires : goal.trim_nuls-xml-requires
-trim_nuls-xml-requires c =
+pub returns-in_err-range-clause-refused : goal.returns-in_err-range-clause-refused
+returns-in_err-range-clause-refused c =
     let a = c.args in
-    range_inside a.file.now a.offset (told_as text_range_read c.in-Range.is c.text_range.ensures)
+    refused_on (λ e. read_block MD a.file.now a.offset ≡ err e) _ _ c.from_residual.ensures.1
+    (rw (← (md_read a.file.now a.offset)) c.in_err-range.ensures.refused)
 
-pub returns-in-Refused : goal.returns-in-Refused
-returns-in-Refused c =
-    let a = c.args in
-    md_refused a.file.now a.offset (told_as text_range_read c.in-Refused.is c.text_range.ensures)
-
-pub returns-in-Range : goal.returns-in-Range
-returns-in-Range c =
-    let a = c.args in
-    md_at a.file.now a.offset (told_as text_range_read c.in-Range.is c.text_range.ensures) c.trim_nuls-xml.ensures
+pub returns-clause-read : goal.returns-clause-read
+returns-clause-read c = md_at c.in_ok-range.ensures.read c.trim_nuls.ensures.part c.trim_nuls.ensures.trimmed
