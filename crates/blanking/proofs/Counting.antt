@@ -1,12 +1,15 @@
 -- Counts of ranges inside a recording, one after the other, and their total.
-use mathlib.Core.Path.{◌≡◌, refl, sym, ap, ◌∙◌}
+use mathlib.Core.Path.{◌≡◌, refl, sym, ap, ap₂, ◌∙◌}
 use mathlib.Core.List.{List, [], ◌∷◌, ◌++◌, map}
-use Prim.Native.Nat.{ℕ, suc, ◌+◌, ◌-◌, ◌≤◌, ◌<◌}
+use Prim.Native.Nat.{ℕ, zero, suc, ◌+◌, ◌-◌, ◌≤◌, ◌<◌}
 use native.Mathlib.Omega.{arith}
-use native.Mathlib.Numerals.{add-one}
-use lib.ListN.{length, get_or, drop, set, length-append, length-map}
-use lib.Seq.{drop-cons, append_snoc, set_at}
-use borrow.Author.Tests.{ne_eqb}
+use lib.ListN.{length, get_or, take, drop, set, length-append, length-map, length-drop}
+use lib.Dec.{eqb}
+use mathlib.Core.Bool.{Bool, true, false, cond, not}
+use Rattle.std.proofs.lemmas.List.Sums.{sum_by-append}
+use Rattle.std.specs.List.{count_by}
+use Rattle.mdf4.proofs.Gaps.{tally_ext}
+use lib.Seq.{take-suc, take_all, length-take-le, get_or-take, get_or-drop, drop-cons, append_snoc, set_at}
 use Rattle.mdf4.specs.Bytes.{Range, bit, sum}
 use Rattle.mdf4.specs.Blank.{nonzero}
 use Rattle.mdf4.specs.Demand3.{Apart}
@@ -16,17 +19,35 @@ use Rattle.clear_ranges.specs.Sweep.{Inner}
 use Rattle.blanking.specs.Counts.{Counted}
 use Rattle.blanking.proofs.Zeroing.{ends}
 
--- a byte more
-pub count_start : (r : List ℕ) (a : ℕ) → 0 ≡ nonzero r (a, a)
-count_start r a = sym (nonzero_empty r a)
-
-pub count_zero : {count : ℕ} (r : List ℕ) (a i : ℕ) → a ≤ i → get_or r i 0 ≡ 0 → count ≡ nonzero r (a, i) → count ≡ nonzero r (a, i + 1)
+-- the bytes of a list, as the library counts them
+nonzero_byte : (b : Bool) → 0 + cond b 1 0 ≡ bit b
 unfolding bit
-count_zero r a i l z e = e ∙ sym (rw add-one (nonzero_step r a i l ∙ rw z (omega arith)))
+nonzero_byte true = refl
+nonzero_byte false = refl
 
-pub count_more : {count : ℕ} (r : List ℕ) (a i : ℕ) → a ≤ i → (get_or r i 0 ≡ 0 → ⊥) → count ≡ nonzero r (a, i) → count + 1 ≡ nonzero r (a, i + 1)
-unfolding bit
-count_more r a i l z e = sym (rw add-one (nonzero_step r a i l ∙ rw (ne_eqb (get_or r i 0) 0 z) (omega (arith, e))))
+nonzero_count : (xs : List ℕ) (n : ℕ) → n ≤ length xs → count_by (λ x. not (eqb x 0)) (take n xs) ≡ nonzero xs (0, n)
+nonzero_count xs zero h = sym (nonzero_empty xs 0)
+nonzero_count xs (suc n) h =
+    rw (take-suc xs n 0 (omega arith), sum_by-append (λ x. cond (not (eqb x 0)) 1 0) (take n xs) (get_or xs n 0 ∷ []))
+    (ap₂ (λ (a b : ℕ). a + b) (nonzero_count xs n (omega arith)) (nonzero_byte (not (eqb (get_or xs n 0) 0))) ∙ sym (nonzero_step xs 0 n (omega arith)))
+
+pub nonzero_all : (xs : List ℕ) → count_by (λ x. not (eqb x 0)) xs ≡ nonzero xs (0, length xs)
+nonzero_all xs =
+    let l : length xs ≤ length xs = omega arith in
+    rw take_all at (nonzero_count xs (length xs) l)
+
+-- the bytes of a part
+pub nonzero_part : (xs : List ℕ) (a b : ℕ) → nonzero (take (b - a) (drop a xs)) (0, b - a) ≡ nonzero xs (a, b)
+unfolding nonzero
+nonzero_part xs a b =
+    let z : b - a - 0 ≡ b - a = omega arith in
+    rw z (tally_ext _ _ (b - a) (λ i l. let y : 0 + i ≡ i = omega arith in rw (y, get_or-take (b - a) (drop a xs) i 0 l, get_or-drop a xs i 0) refl))
+
+pub part_counted : {x : ℕ} (xs : List ℕ) (a b : ℕ) → a ≤ b → b ≤ length xs
+    → x ≡ nonzero (take (b - a) (drop a xs)) (0, length (take (b - a) (drop a xs))) → x ≡ nonzero xs (a, b)
+part_counted xs a b l h e =
+    let k : length (take (b - a) (drop a xs)) ≡ b - a = length-take-le (b - a) (drop a xs) (omega (arith, length-drop a xs)) in
+    rw k at e ∙ nonzero_part xs a b
 
 -- the ranges hold no more bytes than the recording
 sum_append : (xs ys : List ℕ) → sum (xs ++ ys) ≡ sum xs + sum ys

@@ -7,14 +7,10 @@ use lib.ListN.{length, replicate, take, drop, length-drop}
 use lib.Seq.{length-take-le, drop-drop}
 use Rattle.mdf4.specs.Bytes.{Range}
 use Rattle.mdf4.specs.Blank.{zeroed}
-use Rattle.mdf4.specs.Layout.{compute_gaps}
-use Rattle.mdf4.specs.Demand3.{Apart, ranges_in}
+use Rattle.mdf4.specs.Demand3.{Apart}
 use Rattle.mdf4.proofs.Lists.{All}
 use Rattle.mdf4.proofs.Zeroed.{zeroed_none, zeroed_cons, zeroed_one, ends_below}
-use Rattle.clear_ranges.specs.Sweep.{left_from, NextMet, Inner}
-use Rattle.clear_ranges.specs.declared.Found.{Found}
-use Rattle.clear_ranges.specs.declared.Next.{Next}
-use Rattle.clear_ranges.specs.declared.Next.TheVariants as next
+use Rattle.clear_ranges.specs.Sweep.{Inner}
 use Rattle.clear_ranges.proofs.Sweeping.{Going, among}
 
 -- a range in the middle of such ranges
@@ -30,12 +26,11 @@ pub ends : {len : ℕ} {ws : List Range} → Inner len ws → All (λ g. g.1 ≤
 ends {len} {ws} h = ends_below len 0 ws h.apart h.below
 
 -- the next range of a sweep
-pub next_inner : {P : List Range → Type 0} {len n : ℕ} {t : List ℕ} {row cursor : ℕ} {x : Next} {g : Found} → Inner len (compute_gaps len 0 (ranges_in 2 n t))
-    → (s : Going P len n t row cursor) (m : NextMet x len n t row cursor) → x ≡ next.Range g → (g.start ≤ g.end) × (g.end ≤ len)
-next_inner {len = len} {n} {t} {g = g} h s m e =
-    let rest = left_from len n t g.row g.cursor in
-    let a = apart_at 0 s.found (g.start, g.end) rest (rw (among s m e) h.apart) in
-    let b = all_at (λ q. q.1 ≤ len) s.found (g.start, g.end) rest (rw (among s m e) (ends h)) in
+pub next_inner : {P : List Range → Type 0} {len : ℕ} {all left : List Range} {g : Range} {rest : List Range} → Inner len all → Going P all left → left ≡ g ∷ rest
+    → (g.0 ≤ g.1) × (g.1 ≤ len)
+next_inner {len = len} {g = g} {rest} h s e =
+    let a = apart_at 0 s.found g rest (rw (among s e) h.apart) in
+    let b = all_at (λ q. q.1 ≤ len) s.found g rest (rw (among s e) (ends h)) in
     (omega arith, b)
 
 zeroed_append : (ps qs : List Range) (i : ℕ) (xs : List ℕ) → zeroed (ps ++ qs) i xs ≡ zeroed qs i (zeroed ps i xs)

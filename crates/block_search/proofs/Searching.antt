@@ -1,15 +1,18 @@
--- Laws of rows whose offsets ascend, and of the search in them. Assumes nothing.
-use mathlib.Core.Path.{◌≡◌, ap, ◌∙◌}
-use mathlib.Core.List.{List, [], ◌∷◌}
-use Prim.Native.Nat.{ℕ, zero, suc, ◌+◌, ◌*◌, ◌≤◌, ◌<◌}
-use native.Mathlib.Omega.{arith}
-use lib.ListN.{length, get_or}
+-- Rows whose offsets ascend, and a binary search in them. Assumes nothing.
+use Rattle.std.proofs.Common.{◌≡◌, sym, ap, ◌∙◌, ℕ, zero, suc, ◌+◌, ◌*◌, ◌<◌, ◌≤◌, List, [], ◌∷◌, length, get_or, Result, Ok, Err, ◌⊎◌, inl, inr, arith}
+use Rattle.std.specs.List.Sorted.{IsSearchInRange, IsBinarySearchResult, IsNonDecreasingBy}
+use Rattle.std.specs.Ordering.{nat_cmp, ordering_index}
+use Rattle.std.specs.Result.{result_ok}
+use Rattle.std.proofs.lemmas.Bool.{cases_lt}
+use Rattle.std.proofs.lemmas.Cmp.{ranked}
+use Rattle.std.proofs.lemmas.Bool.Decides.{nat_tests}
+use Rattle.std.proofs.lemmas.List.Sorted.{IsNonDecreasingBy-from_default}
 use Rattle.mdf4.specs.Act.{Row}
 use Rattle.mdf4.specs.Answers.{block_row_words}
 use Rattle.mdf4.proofs.Order.{Above, Rising}
-use Rattle.tables.specs.Rows.{held_rows, row_at}
-use Rattle.tables.proofs.Words.{row_is, rows_at, rows_length}
-use Rattle.tables.proofs.Sorting.{Place, less, same, more, place}
+use Rattle.tables.specs.Rows.{held_rows, row_at, table}
+use Rattle.tables.proofs.Words.{row_is, row_word, rows_at, rows_length, table_at}
+use Rattle.tables.proofs.Tables.{table_length}
 use Rattle.block_search.specs.Search.{Found}
 
 above_at : (x : ℕ) (ws : List Row) (j : ℕ) (d : Row) → Above x ws → j < length ws → x < (get_or ws j d).off
@@ -35,45 +38,28 @@ ascend n b i j r h k =
     let l : j < length (held_rows n b) = omega (arith, rows_length n b) in
     omega (arith, rising_less (held_rows n b) i j (row_at 0 b) r h l, row_off n i b (row_at 0 b) (omega arith), row_off n j b (row_at 0 b) k)
 
--- the search: rows below `low` have smaller offsets than t, those from `high` on none that is smaller
-pub record Between (n : ℕ) (b : List ℕ) (t low high : ℕ) : Type 0 where
-  pub below : Rising (held_rows n b) → (j : ℕ) → j < low → off_at b j < t
-  pub above : Rising (held_rows n b) → (j : ℕ) → high ≤ j → j < n → t ≤ off_at b j
+-- what a binary search by offset answers of n rows as arrays
+module _ (n : ℕ) (b : List ℕ) (t : ℕ) (ws : List (List ℕ)) (rows : ws ≡ table block_row_words (λ row. row) n b) where
+  long : length ws ≡ n
+  long = ap length rows ∙ table_length block_row_words (λ row. row) n b
 
-module _ (n : ℕ) (b : List ℕ) (t : ℕ) where
-  pub between : Between n b t 0 n
-  between = record { below = λ r j h. absurd (omega arith); above = λ r j h k. absurd (omega arith) }
+  read : (i : ℕ) (w : List ℕ) → i < n → get_or (get_or ws i w) 0 0 ≡ off_at b i
+  read i w h =
+      let z : i * block_row_words + 0 ≡ i * block_row_words = omega arith in
+      rw (rows, table_at block_row_words (λ row. row) n i b w h) (row_word block_row_words i 0 b (omega arith) ∙ ap (λ j. get_or b j 0) z)
 
-  pub go_up : (low high middle : ℕ) → middle < n → off_at b middle < t → Between n b t low high → Between n b t (middle + 1) high
-  go_up low high middle h l p = record { below = λ r j k. at r j k (place middle j); above = p.above }
+  rises : Rising (held_rows n b) → IsNonDecreasingBy (λ w. ordering_index (nat_cmp (get_or w 0 0) t)) ws
+  rises r = IsNonDecreasingBy-from_default (λ w. ordering_index (nat_cmp (get_or w 0 0) t)) ws [] (λ i j le l.
+      let up : i < j → off_at b i < off_at b j = λ lt. ascend n b i j r lt (omega (arith, long)) in
+      let at_i : get_or (get_or ws i []) 0 0 ≡ off_at b i = read i [] (omega (arith, long)) in
+      let at_j : get_or (get_or ws j []) 0 0 ≡ off_at b j = read j [] (omega (arith, long)) in
+      let le' : get_or (get_or ws i []) 0 0 ≤ get_or (get_or ws j []) 0 0 = grind (arith, λ (e : i ≡ j). ap (off_at b) e) in
+      grind (arith, nat_tests))
+
+  pub found : (r : Result ℕ ℕ) → IsSearchInRange r (length ws) → IsBinarySearchResult (λ w. nat_cmp (get_or w 0 0) t) ws r → Found n b t (result_ok r)
+  found (Ok i) h e = record { hit = (omega (arith, long), sym (read i [] (omega (arith, long))) ∙ ranked _ t _ (sym (e []))); miss = tt }
+  found (Err i) h e = record { hit = tt; miss = λ r j l at_j. apart r j l (read j [] l ∙ at_j) (cases_lt j i) }
     where
-      at : Rising (held_rows n b) → (j : ℕ) → j < middle + 1 → Place middle j → off_at b j < t
-      at r j k (less q) = omega (arith, ascend n b j middle r q h)
-      at r j k (same q) = rw q l
-      at r j k (more q) = absurd (omega arith)
-
-  pub go_down : (low high middle : ℕ) → t ≤ off_at b middle → Between n b t low high → Between n b t low middle
-  go_down low high middle l p = record { below = p.below; above = λ r j h k. at r j h k (place middle j) }
-    where
-      at : Rising (held_rows n b) → (j : ℕ) → middle ≤ j → j < n → Place middle j → t ≤ off_at b j
-      at r j h k (less q) = absurd (omega arith)
-      at r j h k (same q) = rw q l
-      at r j h k (more q) = omega (arith, ascend n b middle j r q k)
-
-  pub found_none : (low high : ℕ) → n ≤ low → Between n b t low high → Found n b t n
-  found_none low high h p = record {
-    most = omega arith;
-    hit = λ k. absurd (omega arith);
-    miss = λ k r j l e. omega (arith, p.below r j (omega arith));
-  }
-
-  pub found_other : (low high : ℕ) → high ≤ low → low < n → (off_at b low ≡ t → ⊥) → Between n b t low high → Found n b t n
-  found_other low high h k ne p = record { most = omega arith; hit = λ k. absurd (omega arith); miss = λ q r j l e. at r j l e (place low j) }
-    where
-      at : Rising (held_rows n b) → (j : ℕ) → j < n → off_at b j ≡ t → Place low j → ⊥
-      at r j l e (less q) = omega (arith, p.below r j q)
-      at r j l e (same q) = ne (rw (← q) e)
-      at r j l e (more q) = omega (arith, p.above r low h k, ascend n b low j r q l)
-
-  pub found_row : (low : ℕ) → low < n → off_at b low ≡ t → Found n b t low
-  found_row low h e = record { most = omega arith; hit = λ k. e; miss = λ k. absurd (omega arith) }
+      apart : Rising (held_rows n b) → (j : ℕ) → j < n → get_or (get_or ws j []) 0 0 ≡ t → (j < i) ⊎ (i ≤ j) → ⊥
+      apart r j l at_j (inl before) = let below : get_or (get_or ws j []) 0 0 < t = ranked _ t _ (sym ((e (rises r)).0 j [] (omega arith) before)) in omega arith
+      apart r j l at_j (inr after) = let above : t < get_or (get_or ws j []) 0 0 = ranked _ t _ (sym ((e (rises r)).1 j [] after (omega (arith, long)))) in omega arith

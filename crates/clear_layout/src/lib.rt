@@ -7,20 +7,14 @@ ghost use Rattle.file_layout.specs.Tables.{lent};
 ghost use Rattle.clear_layout.specs.Clearable.{ClearableMet};
 
 use blocks::error::MdfError;
-use clear_ranges::{Spared, sort_spared};
-use file_layout::{Laid, lay_finalized};
+use clear_ranges::sort_spared;
+use file_layout::{Rows, lay_finalized};
 
-// The rows in use of each table, the last of the scratch table; or a refusal.
-#[derive(Drop)]
-pub enum Clearable {
-    Tables {
-        visited: usize,
-        blocks: usize,
-        links: usize,
-        gaps: usize,
-        scratch: usize,
-    },
-    Refused(MdfError),
+// The rows in use of each table, those of the scratch table last.
+#[derive(Clone, Copy, Debug, PartialEq, Eq)]
+pub struct Clearable {
+    pub rows: Rows,
+    pub scratch: usize,
 }
 
 // A refusal leaves all tables free.
@@ -31,29 +25,13 @@ pub fn lay_clear(
     links: &mut [u64],
     gaps: &mut [u64],
     scratch: &mut [u64],
-) -> Clearable
+) -> Result<Clearable, MdfError>
     ensures { (out : ℕ) → ClearableMet (lent visited.old blocks.old links.old gaps.old (length scratch.old) out) «data».now result visited.new blocks.new links.new gaps.new scratch.new }
 {
-    let laid = lay_finalized(data, visited, blocks, links, gaps);
-    match laid {
-        Laid::Refused(e) => Clearable::Refused(e),
-        Laid::Tables {
-            visited: v,
-            blocks: b,
-            links: l,
-            gaps: g,
-        } => {
-            let spared = sort_spared(data, blocks, b, links, l, scratch);
-            match spared {
-                Spared::Refused(e) => Clearable::Refused(e),
-                Spared::Rows(rows) => Clearable::Tables {
-                    visited: v,
-                    blocks: b,
-                    links: l,
-                    gaps: g,
-                    scratch: rows,
-                },
-            }
-        }
-    }
+    let rows = lay_finalized(data, visited, blocks, links, gaps)?;
+    let spared = sort_spared(data, blocks, rows.blocks, links, rows.links, scratch)?;
+    Ok(Clearable {
+        rows,
+        scratch: spared,
+    })
 }

@@ -8,7 +8,7 @@ use lib.Dec.{ltb}
 use lib.ListN.{length}
 use borrow.Author.Tests.{le-leb, lt-leb, le-ltb, ltb-true, ltb-false}
 use Rattle.mdf4.specs.Bytes.{Range, within, inside, concat_map}
-use Rattle.mdf4.specs.Act.{ok, check, State}
+use Rattle.mdf4.specs.Act.{ok, check, State, Row, Link}
 use Rattle.mdf4.specs.Reads.{spared_ranges}
 use Rattle.mdf4.specs.Layout.{sort, extent, gap, compute_gaps, Layout, layout_of}
 use Rattle.mdf4.specs.Clear.{is_clear, none, close, clear_ranges}
@@ -21,14 +21,15 @@ use Rattle.mdf4.proofs.Gaps.{Ordered, gaps_count, gaps_of, inside_count}
 use Rattle.mdf4.proofs.Good.{Inv}
 use Rattle.mdf4.proofs.Runs.{window, runs_inside, runs_apart, apart_unique}
 use Rattle.tables.specs.Sort.{Sorted}
-use Rattle.tables.specs.Gaps.{Pushed, Listed}
+use Rattle.tables.specs.declared.RangeTable.{RangeTable}
+use Rattle.tables.specs.Gaps.{Pushes, Listed}
 use Rattle.tables.specs.Laid.{Printable}
 use Rattle.tables.specs.Rows.{held_rows, held_links}
-use Rattle.tables.proofs.Gapping.{listed, pushed_then}
+use Rattle.tables.proofs.Gapping.{listed, pushes_then}
 use Rattle.mdf4.proofs.Demand3.{pairs_in}
 use Rattle.scratch_rows.specs.Covers.{row_cover, link_cover, covers}
 use Rattle.clear_ranges.specs.Spared.{SparedMet, spared_room}
-use Rattle.clear_ranges.specs.declared.Spared.TheVariants.{Rows, Refused}
+use Rattle.std.specs.Prelude.{Ok, Err}
 use Rattle.blocks.specs.declared.error.MdfError.TheVariants.{TableTooShort}
 use Rattle.scratch_rows.proofs.Covering.{Taken, covers_length, covers_inside, covers_taken}
 use Rattle.clear_ranges.proofs.SortedRanges.{sorted_inside, sorted_all, sorted_ordered}
@@ -102,14 +103,15 @@ module _ (r : List ℕ) (s : State) (v : Inv r s) where
       apart_unique 0 (compute_gaps (length r) 0 ps) (clear_ranges r (layout_of r s)) (gaps_apart (length r) 0 0 ps (omega arith) a) clear_apart
       (λ j. gaps_inside (length r) j ps o a ∙ rw (h j) (sym (clear_inside j)))
 
+-- what is pushed on a table of the code that had no rows
+pub all_pushed : (r : List ℕ) (ws : List Row) (ls : List Link) {p q s : RangeTable} {t : List ℕ} → p.words.now ≡ t → p.count ≡ 0
+    → Pushes p (concat_map (row_cover r) ws) q → Pushes q (concat_map (link_cover r) ls) s → Listed (covers r ws ls) t s.words.now s.count
+unfolding covers
+all_pushed r ws ls e z u v = listed (rw (e, z) at (pushes_then u v).pushed)
+
 -- The answers
 
-module _ (r b l : List ℕ) (n m : ℕ) {s s1 s2 : List ℕ} {c1 c : ℕ}
-    (rows : Pushed s 0 (concat_map (row_cover r) (held_rows n b)) s1 c1) (links : Pushed s1 c1 (concat_map (link_cover r) (held_links m l)) s2 c) (long : length s2 ≡ length s) where
-  filled : Listed (covers r (held_rows n b) (held_links m l)) s s2 c
-  unfolding covers
-  filled = listed _ s s2 c long (pushed_then rows links)
-
+module _ (r b l : List ℕ) (n m : ℕ) {s s2 : List ℕ} {c : ℕ} (filled : Listed (covers r (held_rows n b) (held_links m l)) s s2 c) where
   module _ (y : Layout) (e1 : y.blocks ≡ held_rows n b) (e2 : y.state.links ≡ held_links m l) (v : Inv r y.state) (e3 : y ≡ layout_of r y.state) where
     sorted_are : held_rows n b ≡ sort y.state.rows
     unfolding layout_of
@@ -121,7 +123,7 @@ module _ (r b l : List ℕ) (n m : ℕ) {s s1 s2 : List ℕ} {c1 c : ℕ}
     holds : (j : ℕ) → inside j (covers r (held_rows n b) (held_links m l)) ≡ (inside j (map extent (sort y.state.rows)) || inside j (spared_ranges r y.state))
     holds j = rw (sorted_are, ← e2) (covers_inside r y.state v j)
 
-    pub refused_at : length s / 2 < c → SparedMet (Refused (TableTooShort (length s / 2) c)) r y (length s) s2
+    pub refused_at : length s / 2 < c → SparedMet (Err (TableTooShort (length s / 2) c)) r y (length s) s2
     unfolding room check
     refused_at h = record { says = rw (← needed, lt-leb c (length s / 2) h) }
 
@@ -139,5 +141,5 @@ module _ (r b l : List ℕ) (n m : ℕ) {s s1 s2 : List ℕ} {c1 c : ℕ}
         let o : Ordered 0 (ranges_in 2 c s3) = sorted_ordered c s2 s3 w (all_map _ _ (λ q x. x.0) (ranges_in 2 c s3) a) in
         clear_is r y.state v (ranges_in 2 c s3) o a (λ j. sorted_inside c s2 s3 w j ∙ ap (inside j) t ∙ holds j) ∙ ap (clear_ranges r) (sym e3)
 
-    pub sorted_at : Printable r n b m l → c ≤ length s / 2 → {s3 : List ℕ} → Sorted 2 c s2 s3 → SparedMet (Rows c) r y (length s) s3
-    sorted_at p h w = record { says = (room_at h, record { fits = omega (arith, w.moved.long, long); are = clear_at p h w }) }
+    pub sorted_at : Printable r n b m l → c ≤ length s / 2 → {s3 : List ℕ} → Sorted 2 c s2 s3 → SparedMet (Ok c) r y (length s) s3
+    sorted_at p h w = record { says = (room_at h, record { fits = omega (arith, w.moved.long, filled.long); are = clear_at p h w }) }

@@ -6,25 +6,25 @@ use Prim.Native.Nat.{ℕ, ◌+◌, ◌-◌, ◌*◌, ◌%◌, ◌≤◌, ◌<◌
 use native.Mathlib.Omega.{arith}
 use native.Mathlib.Numerals.{add-one}
 use lib.Dec.{leb, eqb}
-use lib.ListN.{length, get_or}
+use lib.ListN.{length, get_or, take, drop}
 use borrow.Author.Tests.{le-leb, lt-leb, leb-true, ne_eqb}
 use Rattle.mdf4.specs.Bytes.{Range, little, num, concat_map}
-use Rattle.mdf4.specs.Kinds.{mark_of, block_len, read_len, make_link}
+use Rattle.mdf4.specs.Kinds.{mark_of, block_len, make_link}
 use Rattle.mdf4.specs.Reads.{leads_to_block, link_ranges}
 use Rattle.mdf4.proofs.Bytes.{and_right}
 use Rattle.mdf4.proofs.Lists.{concat_map_snoc}
 use Rattle.mdf4.proofs.Fields.{num_bytes}
-use Rattle.mdf4.proofs.Reading.{read_whole}
-use Rattle.mdf4.proofs.Good.{Readable}
-use Rattle.tables.specs.Gaps.{Pushed}
-use Rattle.tables.specs.Rows.{kind_of, held_rows, held_links, row_at, link_at, table}
-use Rattle.tables.proofs.Gapping.{pushed_none, pushed_then}
-use Rattle.tables.proofs.Words.{row_is, link_is, rows_more, links_more}
-use Rattle.scratch_rows.specs.Covers.{cover, row_cover, block_cover, linked_cover, target_cover, link_cover}
+use Rattle.tables.specs.declared.BlockInfo.{BlockInfo}
+use Rattle.tables.specs.declared.RangeTable.{RangeTable}
+use Rattle.tables.specs.Gaps.{Pushes}
+use Rattle.tables.specs.Rows.{row_of, held_rows, held_links, row_at, link_at, link_of_words, table}
+use Rattle.tables.proofs.Gapping.{pushes_none, pushes_then}
+use Rattle.tables.proofs.Words.{rows_more, links_more}
+use Rattle.scratch_rows.specs.Covers.{row_cover, block_cover, linked_cover, target_cover, link_cover}
 
 -- nothing of a block or link is pushed
-pub pushed_no : {ps : List Range} (t : List ℕ) (c : ℕ) → ps ≡ [] → Pushed t c ps t c
-pushed_no t c e = rw e (pushed_none t c)
+pub pushes_no : {ps : List Range} (q : RangeTable) → ps ≡ [] → Pushes q ps q
+pushes_no q e = rw e (pushes_none q)
 
 -- the target of a link
 module _ (r : List ℕ) (t : ℕ) where
@@ -65,46 +65,30 @@ module _ (r : List ℕ) (t : ℕ) where
   block_whole e = leb-true (t + 24) (length r) (and_right (eqb (((make_link r t).found - 1) % 65536) (mark_of "##")) (leb (t + 24) (length r)) (sym e))
 
   -- both ranges of a block
-  pub block_pushed : {s s1 s2 : List ℕ} {c c1 c2 x : ℕ} → Pushed s c ((t, t + 24) ∷ []) s1 c1 → Pushed s1 c1 ((t, x) ∷ []) s2 c2
-      → x ≡ max (t + 24) (min (t + num r (t + 8) 8) (length r)) → Pushed s c (block_cover r t) s2 c2
+  pub block_pushed : {p q s : RangeTable} {x : ℕ} → Pushes p ((t, t + 24) ∷ []) q → Pushes q ((t, x) ∷ []) s
+      → x ≡ max (t + 24) (min (t + num r (t + 8) 8) (length r)) → Pushes p (block_cover r t) s
   unfolding block_cover block_len
-  block_pushed p q e = rw (num_bytes r t 24 8 8 (omega arith), ← e) (pushed_then p q)
+  block_pushed u v e = rw (num_bytes r t 24 8 8 (omega arith), ← e) (pushes_then u v)
 
 -- one row more
-row_covered : (r b : List ℕ) (i : ℕ) → row_cover r (row_at i b) ≡ cover r (get_or b (i * 12) 0) (get_or b (i * 12 + 1) 0) (kind_of (get_or b (i * 12 + 4) 0))
-unfolding row_cover
-row_covered r b i = let w = row_is b i in rw (w.off, w.end, w.kind)
+link_covered : (r t : List ℕ) (i : ℕ) {l : List ℕ} → l ≡ take 2 (drop (i * 2) t) → target_cover r (get_or l 0 0) ≡ link_cover r (link_at i t)
+unfolding link_cover link_at link_of_words
+link_covered r t i e = rw e
 
-link_covered : (r l : List ℕ) (i : ℕ) → link_cover r (link_at i l) ≡ target_cover r (get_or l (i * 2) 0)
-unfolding link_cover
-link_covered r l i = rw (link_is l i)
+module _ {p q s : RangeTable} (r t : List ℕ) (i : ℕ) where
+  pub row_turn : (b : BlockInfo) → row_of b ≡ row_at i t → Pushes p (concat_map (row_cover r) (held_rows i t)) q → Pushes q (row_cover r (row_of b)) s
+      → Pushes p (concat_map (row_cover r) (held_rows (i + 1) t)) s
+  row_turn b e u v = rw (add-one, rows_more, concat_map_snoc) (pushes_then u (rw e at v))
 
-module _ (r b : List ℕ) (i : ℕ) {t t' t'' : List ℕ} {c c' c'' : ℕ} where
-  pub row_turn : Pushed t c (concat_map (row_cover r) (held_rows i b)) t' c'
-      → Pushed t' c' (cover r (get_or b (i * 12) 0) (get_or b (i * 12 + 1) 0) (kind_of (get_or b (i * 12 + 4) 0))) t'' c''
-      → Pushed t c (concat_map (row_cover r) (held_rows (i + 1) b)) t'' c''
-  row_turn p q = rw (add-one, rows_more, concat_map_snoc, row_covered r b i) (pushed_then p q)
+  pub link_turn : (l : List ℕ) → l ≡ take 2 (drop (i * 2) t) → Pushes p (concat_map (link_cover r) (held_links i t)) q → Pushes q (target_cover r (get_or l 0 0)) s
+      → Pushes p (concat_map (link_cover r) (held_links (i + 1) t)) s
+  link_turn l e u v = rw (add-one, links_more, concat_map_snoc) (pushes_then u (rw (link_covered r t i e) at v))
 
-  pub link_turn : Pushed t c (concat_map (link_cover r) (held_links i b)) t' c' → Pushed t' c' (target_cover r (get_or b (i * 2) 0)) t'' c''
-      → Pushed t c (concat_map (link_cover r) (held_links (i + 1) b)) t'' c''
-  link_turn p q = rw (add-one, links_more, concat_map_snoc, link_covered r b i) (pushed_then p q)
-
--- no rows yet, and all of them
-pub rows_none : (r b t : List ℕ) (c : ℕ) → Pushed t c (concat_map (row_cover r) (held_rows 0 b)) t c
+-- no rows yet
+pub rows_none : (r b : List ℕ) (q : RangeTable) → Pushes q (concat_map (row_cover r) (held_rows 0 b)) q
 unfolding held_rows table concat_map
-rows_none r b t c = pushed_none t c
+rows_none r b q = pushes_none q
 
-pub links_none : (r l t : List ℕ) (c : ℕ) → Pushed t c (concat_map (link_cover r) (held_links 0 l)) t c
+pub links_none : (r l : List ℕ) (q : RangeTable) → Pushes q (concat_map (link_cover r) (held_links 0 l)) q
 unfolding held_links table concat_map
-links_none r l t c = pushed_none t c
-
--- the own bytes of each row lie inside the file
-pub row_whole : (r b : List ℕ) (i : ℕ) → Readable r (row_at i b) → get_or b (i * 12) 0 + read_len (kind_of (get_or b (i * 12 + 4) 0)) r (get_or b (i * 12) 0) ≤ length r
-row_whole r b i q =
-    let w = row_is b i in
-    let l : (row_at i b).off + read_len (row_at i b).kind r (row_at i b).off ≤ length r = read_whole (row_at i b).kind r (row_at i b).off _ q in
-    rw (w.off, w.kind) at l
-
--- a loop that has reached its end
-pub at_end : (P : ℕ → Type 0) {i n : ℕ} → i ≤ n → n ≤ i → P i → P n
-at_end P {i} {n} a b p = let e : i ≡ n = omega arith in rw (← e) p
+links_none r l q = pushes_none q

@@ -1,80 +1,129 @@
--- Read lengths by a kind's number, as the code tests it.
-use mathlib.Core.Path.{◌≡◌, sym, ◌∙◌}
+-- Read lengths, kind by kind.
+use mathlib.Core.Path.{◌≡◌, refl, sym, ◌∙◌}
+use mathlib.Core.Bool.{false}
 use mathlib.Core.List.{List}
 use Prim.Native.Nat.{ℕ, ◌+◌, ◌*◌, ◌%◌, ◌≤◌, max}
 use native.Mathlib.Omega.{arith}
+use lib.ListN.{length}
 use borrow.Author.Tests.{eq-eqb, ne_eqb}
+use Rattle.std.specs.Prelude.{Result, Ok, Err}
+use Rattle.std.specs.Result.{result_unwrap_or}
 use Rattle.mdf4.specs.Bytes.{bytes, num}
-use Rattle.mdf4.specs.Act.{Kind, ID, HD, DG, CG, CN, SI, TX, MD, DT, SD, DL, UT, UD}
-use Rattle.mdf4.specs.Kinds.{read_len}
+use Rattle.mdf4.specs.Act as spec
+use Rattle.mdf4.specs.Kinds.{shape, read_len}
+use Rattle.mdf4.specs.Kinds as kinds
 use Rattle.mdf4.specs.Reads.{listed_len}
 use Rattle.mdf4.proofs.Fields.{read_len_is}
-use Rattle.mdf4.proofs.Reading.{need_least}
-use Rattle.tables.specs.Rows.{kind_of}
-use Rattle.tables.proofs.Words.{by_number}
+use Rattle.mdf4.proofs.Reading.{need_least, read_whole}
+use Rattle.mdf4.proofs.Good.{Readable}
+use Rattle.blocks.specs.declared.kind.Kind.{Kind}
+use Rattle.blocks.specs.declared.kind.Kind.TheVariants.{ID, HD, DG, CG, CN, SI, TX, MD, DT, SD, DL, UT, UD}
+use Rattle.blocks.specs.declared.kind.UnknownKind.{UnknownKind}
+use Rattle.blocks.specs.Kind.{kind_named, IsKindOf}
+use Rattle.tables.specs.declared.BlockInfo.{BlockInfo}
+use Rattle.tables.specs.Rows.{kind_of, row_of}
+use Rattle.tables.proofs.Words.{by_number, kind_again}
 
-pub read_least : (k : Kind) (r : List ℕ) (a : ℕ) → 24 ≤ read_len k r a
+pub read_least : (k : spec.Kind) (r : List ℕ) (a : ℕ) → 24 ≤ read_len k r a
 unfolding read_len
 read_least k r a = omega (arith, need_least k (bytes r a 24))
 
-module _ (r : List ℕ) (a k : ℕ) where
-  pub len_id : k ≡ 1 → read_len (kind_of k) r a ≡ 64
-  unfolding kind_of listed_len
-  len_id e = rw e (read_len_is r ID a)
+module _ (r : List ℕ) (a : ℕ) where
+  pub len_id : read_len spec.ID r a ≡ 64
+  unfolding listed_len
+  len_id = read_len_is r spec.ID a
 
-  pub len_hd : k ≡ 2 → read_len (kind_of k) r a ≡ 104
-  unfolding kind_of listed_len
-  len_hd e = rw e (read_len_is r HD a)
+  pub len_hd : read_len spec.HD r a ≡ 104
+  unfolding listed_len
+  len_hd = read_len_is r spec.HD a
 
-  pub len_dg : k ≡ 3 → read_len (kind_of k) r a ≡ 64
-  unfolding kind_of listed_len
-  len_dg e = rw e (read_len_is r DG a)
+  pub len_dg : read_len spec.DG r a ≡ 64
+  unfolding listed_len
+  len_dg = read_len_is r spec.DG a
 
-  pub len_cg : k ≡ 4 → read_len (kind_of k) r a ≡ 24 + 8 * num r (a + 16) 8 + 32
-  unfolding kind_of listed_len
-  len_cg e = rw e (read_len_is r CG a)
+  pub len_cg : read_len spec.CG r a ≡ 24 + 8 * num r (a + 16) 8 + 32
+  unfolding listed_len
+  len_cg = read_len_is r spec.CG a
 
-  pub len_cn : k ≡ 5 → read_len (kind_of k) r a ≡ 160
-  unfolding kind_of listed_len
-  len_cn e = rw e (read_len_is r CN a)
+  pub len_cn : read_len spec.CN r a ≡ 160
+  unfolding listed_len
+  len_cn = read_len_is r spec.CN a
 
-  pub len_si : k ≡ 6 → read_len (kind_of k) r a ≡ 24 + 8 * num r (a + 16) 8 + 3
-  unfolding kind_of listed_len
-  len_si e = rw e (read_len_is r SI a)
+  pub len_si : read_len spec.SI r a ≡ 24 + 8 * num r (a + 16) 8 + 3
+  unfolding listed_len
+  len_si = read_len_is r spec.SI a
 
-  pub len_tx : k ≡ 7 → read_len (kind_of k) r a ≡ max 24 (num r (a + 8) 8)
-  unfolding kind_of listed_len
-  len_tx e = rw e (read_len_is r TX a)
+  pub len_tx : read_len spec.TX r a ≡ max 24 (num r (a + 8) 8)
+  unfolding listed_len
+  len_tx = read_len_is r spec.TX a
 
-  pub len_md : k ≡ 8 → read_len (kind_of k) r a ≡ max 24 (num r (a + 8) 8)
-  unfolding kind_of listed_len
-  len_md e = rw e (read_len_is r MD a)
+  pub len_md : read_len spec.MD r a ≡ max 24 (num r (a + 8) 8)
+  unfolding listed_len
+  len_md = read_len_is r spec.MD a
 
-  pub len_dl : k ≡ 11 → read_len (kind_of k) r a ≡ read_len DL r a
-  unfolding kind_of
-  len_dl e = rw e
+  pub len_dt : read_len spec.DT r a ≡ 24
+  unfolding listed_len
+  len_dt = read_len_is r spec.DT a
 
--- the others: their header
-pub len_others : (r : List ℕ) (a k : ℕ) → (k ≡ 1 → ⊥) → (k ≡ 2 → ⊥) → (k ≡ 3 → ⊥) → (k ≡ 4 → ⊥) → (k ≡ 5 → ⊥) → (k ≡ 6 → ⊥) → (k ≡ 7 → ⊥) → (k ≡ 8 → ⊥) → (k ≡ 11 → ⊥)
-    → read_len (kind_of k) r a ≡ 24
-unfolding listed_len
-len_others r a k h1 h2 h3 h4 h5 h6 h7 h8 h11 =
-    by_number (λ (x : Kind). read_len x r a ≡ 24) k (read_len_is r UD a)
-    (λ e. absurd (h1 e)) (λ e. absurd (h2 e)) (λ e. absurd (h3 e)) (λ e. absurd (h4 e)) (λ e. absurd (h5 e)) (λ e. absurd (h6 e))
-    (λ e. absurd (h7 e)) (λ e. absurd (h8 e)) (λ e. read_len_is r DT a) (λ e. read_len_is r SD a) (λ e. absurd (h11 e)) (λ e. read_len_is r UT a)
+  pub len_sd : read_len spec.SD r a ≡ 24
+  unfolding listed_len
+  len_sd = read_len_is r spec.SD a
+
+  pub len_ut : read_len spec.UT r a ≡ 24
+  unfolding listed_len
+  len_ut = read_len_is r spec.UT a
+
+  pub len_ud : read_len spec.UD r a ≡ 24
+  unfolding listed_len
+  len_ud = read_len_is r spec.UD a
 
 -- a data list
-pub list_least : (r : List ℕ) (a : ℕ) → 32 + 8 * num r (a + 16) 8 ≤ read_len DL r a
+pub list_least : (r : List ℕ) (a : ℕ) → 32 + 8 * num r (a + 16) 8 ≤ read_len spec.DL r a
 unfolding listed_len
-list_least r a = rw (read_len_is r DL a) (omega arith)
+list_least r a = rw (read_len_is r spec.DL a) (omega arith)
 
 module _ (r : List ℕ) (a nr f : ℕ) (e : nr ≡ num r (a + 16) 8) (d : f ≡ num r (a + (24 + 8 * nr)) 1) where
-  pub list_one : f % 2 ≡ 1 → 32 + 8 * nr + 8 ≡ read_len DL r a
+  pub list_one : f % 2 ≡ 1 → 32 + 8 * nr + 8 ≡ read_len spec.DL r a
   unfolding listed_len
-  list_one q = sym (read_len_is r DL a ∙ rw (← e, ← d, eq-eqb (f % 2) 1 q))
+  list_one q = sym (read_len_is r spec.DL a ∙ rw (← e, ← d, eq-eqb (f % 2) 1 q))
 
-  pub list_many : (f % 2 ≡ 1 → ⊥) → {x : ℕ} → x ≡ num r (a + (24 + 8 * nr) + 4) 4 → 32 + 8 * nr + 8 * x ≡ read_len DL r a
+  pub list_many : (f % 2 ≡ 1 → ⊥) → {x : ℕ} → x ≡ num r (a + (24 + 8 * nr) + 4) 4 → 32 + 8 * nr + 8 * x ≡ read_len spec.DL r a
   unfolding listed_len
   list_many q y =
       let z : a + (24 + 8 * nr) + 4 ≡ a + (28 + 8 * nr) = omega arith in
-      sym (read_len_is r DL a ∙ rw (← e, ← d, ne_eqb (f % 2) 1 q, y, z))
+      sym (read_len_is r spec.DL a ∙ rw (← e, ← d, ne_eqb (f % 2) 1 q, y, z))
+
+-- a row's kind, as the code reads it
+kind_found : (n : ℕ) (x : Result Kind UnknownKind) → IsKindOf n x → kind_named (result_unwrap_or x UD) ≡ kind_of n
+unfolding shape
+kind_found n (Ok k) e = rw (← e) (sym (kind_again (kind_named k)))
+kind_found n (Err u) e =
+    by_number (λ k. spec.UD ≡ k) n refl
+    (λ q. absurd (e.1 ID (sym q))) (λ q. absurd (e.1 HD (sym q))) (λ q. absurd (e.1 DG (sym q))) (λ q. absurd (e.1 CG (sym q)))
+    (λ q. absurd (e.1 CN (sym q))) (λ q. absurd (e.1 SI (sym q))) (λ q. absurd (e.1 TX (sym q))) (λ q. absurd (e.1 MD (sym q)))
+    (λ q. absurd (e.1 DT (sym q))) (λ q. absurd (e.1 SD (sym q))) (λ q. absurd (e.1 DL (sym q))) (λ q. absurd (e.1 UT (sym q)))
+
+module _ (r : List ℕ) (b : BlockInfo) (x : Result Kind UnknownKind) {k : Kind} (named : IsKindOf b.kind x) (is : k ≡ result_unwrap_or x UD) where
+  pub kind_is : kind_named k ≡ kind_of b.kind
+  kind_is = rw is (kind_found b.kind x named)
+
+  -- its own bytes lie inside the file
+  pub row_whole : Readable r (row_of b) → b.offset + read_len (kind_named k) r b.offset ≤ length r
+  unfolding row_of
+  row_whole q = rw kind_is (read_whole (kind_of b.kind) r b.offset _ q)
+
+pub not_channel : (k : Kind) → (k ≡ CN → ⊥) → kinds.is (kind_named k) spec.CN ≡ false
+unfolding kinds.is shape
+not_channel ID n = refl
+not_channel HD n = refl
+not_channel DG n = refl
+not_channel CG n = refl
+not_channel CN n = absurd (n refl)
+not_channel SI n = refl
+not_channel TX n = refl
+not_channel MD n = refl
+not_channel DT n = refl
+not_channel SD n = refl
+not_channel DL n = refl
+not_channel UT n = refl
+not_channel UD n = refl

@@ -12,9 +12,9 @@ use Rattle.mdf4.specs.Act.{Kind, CN, TX}
 use Rattle.mdf4.specs.Kinds.{shape, is, read_len, block_len, make_link, leads_to, name_link, name_is_text, name_head, name_len}
 use Rattle.mdf4.specs.Reads.{name_ranges, named_ranges, links_at, listed_len}
 use Rattle.mdf4.proofs.Fields.{num_bytes, read_len_is}
-use Rattle.tables.specs.Rows.{kind_of}
-use Rattle.tables.proofs.Words.{by_number}
-use Rattle.scratch_rows.specs.Covers.{name_cover, cover}
+use Rattle.tables.specs.declared.BlockInfo.{BlockInfo}
+use Rattle.tables.specs.Rows.{kind_of, row_of}
+use Rattle.scratch_rows.specs.Covers.{name_cover, cover, row_cover}
 
 module _ (r : List ℕ) (t : ℕ) where
   no_text : name_is_text (length r) (make_link r t) ≡ false → name_cover r t ≡ []
@@ -56,18 +56,11 @@ third r a =
     let e : read_len CN r a ≡ 160 = read_len_is r CN a in
     rw (e, num_bytes r a 160 40 8 (omega arith))
 
-not_channel : (k : ℕ) → (k ≡ 5 → ⊥) → is (kind_of k) CN ≡ false
-unfolding is shape
-not_channel k h =
-    by_number (λ (x : Kind). is x CN ≡ false) k refl
-    (λ e. refl) (λ e. refl) (λ e. refl) (λ e. refl) (λ e. absurd (h e)) (λ e. refl)
-    (λ e. refl) (λ e. refl) (λ e. refl) (λ e. refl) (λ e. refl) (λ e. refl)
+module _ (r : List ℕ) (b : BlockInfo) {k : Kind} {x e : ℕ} (kind : k ≡ kind_of b.kind) (read : x ≡ read_len k r b.offset) (behind : e ≡ max b.end_offset (b.offset + x)) where
+  pub cover_channel : {t : ℕ} → k ≡ CN → t ≡ num r (b.offset + 40) 8 → row_cover r (row_of b) ≡ (b.offset, e) ∷ name_cover r t
+  unfolding row_cover row_of cover named_ranges name_cover is shape
+  cover_channel c f = rw (f, behind, read, ← kind, c, third r b.offset)
 
-module _ (r : List ℕ) (off end k : ℕ) {x e : ℕ} (read : x ≡ read_len (kind_of k) r off) (behind : e ≡ max end (off + x)) where
-  pub cover_channel : {t : ℕ} → k ≡ 5 → t ≡ num r (off + 40) 8 → cover r off end (kind_of k) ≡ (off, e) ∷ name_cover r t
-  unfolding cover named_ranges name_cover kind_of is shape
-  cover_channel c f = rw (f, behind, read, c, third r off)
-
-  pub cover_other : (k ≡ 5 → ⊥) → cover r off end (kind_of k) ≡ (off, e) ∷ []
-  unfolding cover named_ranges
-  cover_other n = rw (behind, read, not_channel k n)
+  pub cover_other : is k CN ≡ false → row_cover r (row_of b) ≡ (b.offset, e) ∷ []
+  unfolding row_cover row_of cover named_ranges
+  cover_other n = rw (behind, read, ← kind, n)

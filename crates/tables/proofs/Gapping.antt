@@ -1,19 +1,19 @@
--- Ranges pushed on a table, and the pass over the block rows that finds the gaps. Assumes nothing.
-use mathlib.Core.Path.{◌≡◌, refl, sym, ap, ◌∙◌}
+-- Ranges pushed on a table, and the sweep over rows that finds the gaps. Assumes nothing.
+use mathlib.Core.Path.{◌≡◌, refl, ap, ◌∙◌}
 use mathlib.Core.Bool.{Bool, true, false, cond}
-use mathlib.Core.List.{List, [], ◌∷◌, ◌++◌}
-use Prim.Native.Nat.{ℕ, suc, ◌+◌, ◌-◌, ◌*◌, ◌/◌, ◌≤◌, ◌<◌, max}
+use mathlib.Core.List.{List, [], ◌∷◌, ◌++◌, map}
+use Prim.Native.Nat.{ℕ, zero, suc, ◌+◌, ◌*◌, ◌/◌, ◌≤◌, ◌<◌, max}
 use native.Mathlib.Omega.{arith}
-use native.Mathlib.Nat.{suc-mul}
 use lib.Dec.{ltb}
-use lib.ListN.{length, get_or, set, drop, length-set}
-use lib.Seq.{sets, sets-eq, get_or-drop, drop-drop}
+use lib.ListN.{length, get_or, set, drop, length-set, length-append}
+use lib.Seq.{sets, sets-eq}
 use borrow.Author.Tests.{lt-ltb, le-ltb}
 use Rattle.mdf4.specs.Bytes.{Range, concat_map}
 use Rattle.mdf4.specs.Layout.{gap, compute_gaps}
 use Rattle.mdf4.specs.Answers.{range_words}
 use Rattle.mdf4.specs.Demand3.{ranges_in}
-use Rattle.tables.specs.Gaps.{Page, page, push, pushes, Pushed, Listed}
+use Rattle.tables.specs.declared.RangeTable.{RangeTable}
+use Rattle.tables.specs.Gaps.{Page, page, push, pushes, Pushed, Pushes, Listed, range_of}
 
 -- one row
 
@@ -25,17 +25,59 @@ pub push_full : (t : List ℕ) (c a b : ℕ) → length t / 2 ≤ c → Pushed t
 unfolding push pushes
 push_full t c a b h = record { is = rw (le-ltb c (length t / 2) h) }
 
--- one gap
+-- the sweep over rows, whose ranges are ps
 
-pub gap_some : (t t' : List ℕ) (c c' a b : ℕ) → a < b → Pushed t c ((a, b) ∷ []) t' c' → Pushed t c (gap a b) t' c'
+gap_some : (a b : ℕ) → a < b → gap a b ≡ (a, b) ∷ []
 unfolding gap
-gap_some t t' c c' a b h p = rw (lt-ltb a b h) p
+gap_some a b h = rw (lt-ltb a b h)
 
-pub gap_none : (t : List ℕ) (c a b : ℕ) → b ≤ a → Pushed t c (gap a b) t c
-unfolding gap pushes
-gap_none t c a b h = rw (le-ltb a b h) (record { is = refl })
+gap_none : (a b : ℕ) → b ≤ a → gap a b ≡ []
+unfolding gap
+gap_none a b h = rw (le-ltb a b h)
 
--- all gaps, row by row
+-- what is left at a row, behind it, and behind all rows
+module _ (len from : ℕ) where
+  module _ {rows : List (List ℕ)} {row : List ℕ} {behind : List (List ℕ)} {next : ℕ} (e : rows ≡ row ∷ behind) (m : next ≡ max from (get_or row 1 0)) where
+    pub gaps_found : from < get_or row 0 0
+        → compute_gaps len from (map range_of rows) ≡ (from, get_or row 0 0) ∷ compute_gaps len next (map range_of behind)
+    unfolding compute_gaps
+    gaps_found h = rw (e, m, gap_some from (get_or row 0 0) h)
+
+    pub gaps_passed : get_or row 0 0 ≤ from → compute_gaps len next (map range_of behind) ≡ compute_gaps len from (map range_of rows)
+    unfolding compute_gaps
+    gaps_passed h = rw (e, m, gap_none from (get_or row 0 0) h)
+
+  pub gaps_none : (rows : List (List ℕ)) → length rows ≡ 0 → len ≤ from → compute_gaps len from (map range_of rows) ≡ []
+  unfolding compute_gaps
+  gaps_none [] e h = gap_none from len h
+  gaps_none (row ∷ rows) e h = absurd (omega arith)
+
+  pub gaps_last : (rows : List (List ℕ)) → length rows ≡ 0 → from < len
+      → compute_gaps len from (map range_of rows) ≡ (from, len) ∷ compute_gaps len len (map range_of rows)
+  unfolding compute_gaps
+  gaps_last [] e h = rw (gap_some from len h, gap_none len len (omega arith))
+  gaps_last (row ∷ rows) e h = absurd (omega arith)
+
+-- n rows leave n + 1 gaps at most
+gap_most : (a b : ℕ) → length (gap a b) ≤ 1
+unfolding gap
+gap_most a b = go (ltb a b)
+  where
+    go : (h : Bool) → length {A = Range} (cond h ((a, b) ∷ []) []) ≤ 1
+    go true = omega arith
+    go false = omega arith
+
+pub gaps_most : (len cursor : ℕ) (ps : List Range) → length (compute_gaps len cursor ps) ≤ length ps + 1
+unfolding compute_gaps
+gaps_most len cursor [] = omega (arith, gap_most cursor len)
+gaps_most len cursor (p ∷ ps) = rw length-append (omega (arith, gap_most cursor p.0, gaps_most len (max cursor p.1) ps))
+
+pub ranges_length : (w n : ℕ) (t : List ℕ) → length (ranges_in w n t) ≡ n
+unfolding ranges_in
+ranges_length w zero t = refl
+ranges_length w (suc n) t = ap suc (ranges_length w n (drop w t))
+
+-- all that is pushed
 
 pushes_append : (q : Page) (ps qs : List Range) → pushes q (ps ++ qs) ≡ pushes (pushes q ps) qs
 unfolding pushes
@@ -51,48 +93,12 @@ pub pushed_then : {t : List ℕ} {c : ℕ} {ps : List Range} {t' : List ℕ} {c'
     → Pushed t c ps t' c' → Pushed t' c' qs t'' c'' → Pushed t c (ps ++ qs) t'' c''
 pushed_then {t} {c} {ps} {qs = qs} p q = record { is = rw (pushes_append (page t c) ps qs) (q.is ∙ rw p.is) }
 
--- the ranges from row i of n on
-abbrev pub ranges_from : ℕ → ℕ → List ℕ → ℕ → List Range
-ranges_from w n t i = ranges_in w (n - i) (drop (i * w) t)
+-- nothing is pushed on a table of the code; some ranges after the others
+pub pushes_none : (q : RangeTable) → Pushes q [] q
+pushes_none q = record { same_reference = refl; pushed = pushed_none q.words.now q.count }
 
-pub ranges_cons : (w n : ℕ) (t : List ℕ) (i : ℕ) → i < n → ranges_from w n t i ≡ (get_or t (i * w) 0, get_or t (i * w + 1) 0) ∷ ranges_from w n t (i + 1)
-unfolding ranges_in
-ranges_cons w n t i h =
-    let a : n - i ≡ suc (n - (i + 1)) = omega arith in
-    let b : i * w + 0 ≡ i * w = omega arith in
-    let d : i * w + w ≡ (i + 1) * w = omega (arith, suc-mul i w) in
-    rw (a, get_or-drop (i * w) t 0 0, get_or-drop (i * w) t 1 0, drop-drop, b, d)
-
-pub ranges_none : (w n : ℕ) (t : List ℕ) (i : ℕ) → n ≤ i → ranges_from w n t i ≡ []
-unfolding ranges_in
-ranges_none w n t i h = let a : n - i ≡ 0 = omega arith in rw a
-
-pub ranges_all : (w n : ℕ) (t : List ℕ) → ranges_from w n t 0 ≡ ranges_in w n t
-ranges_all w n t =
-    let a : n - 0 ≡ n = omega arith in
-    let b : 0 * w ≡ 0 = omega arith in
-    rw (a, b)
-
--- what is left, pushed on what is written, is the whole
-pub record Going (w n len : ℕ) (t g₀ g : List ℕ) (c cursor i : ℕ) : Type 0 where
-  pub is : pushes (page g c) (compute_gaps len cursor (ranges_from w n t i)) ≡ pushes (page g₀ 0) (compute_gaps len 0 (ranges_in w n t))
-
-module _ (w n len : ℕ) (t g₀ : List ℕ) where
-  pub gap_start : Going w n len t g₀ g₀ 0 0 0
-  gap_start = record { is = rw (ranges_all w n t) }
-
-  pub gap_turn : (g g' : List ℕ) (c c' cursor i : ℕ) → Going w n len t g₀ g c cursor i → i < n → Pushed g c (gap cursor (get_or t (i * w) 0)) g' c'
-      → Going w n len t g₀ g' c' (max cursor (get_or t (i * w + 1) 0)) (i + 1)
-  unfolding compute_gaps
-  gap_turn g g' c c' cursor i q h p = record { is = turn ∙ q.is }
-    where
-      turn : pushes (page g' c') (compute_gaps len (max cursor (get_or t (i * w + 1) 0)) (ranges_from w n t (i + 1))) ≡ pushes (page g c) (compute_gaps len cursor (ranges_from w n t i))
-      turn = rw (ranges_cons w n t i h, p.is) (sym (pushes_append (page g c) (gap cursor (get_or t (i * w) 0)) _))
-
-  pub gap_last : (g g' : List ℕ) (c c' cursor i : ℕ) → Going w n len t g₀ g c cursor i → n ≤ i → Pushed g c (gap cursor len) g' c'
-      → Pushed g₀ 0 (compute_gaps len 0 (ranges_in w n t)) g' c'
-  unfolding compute_gaps
-  gap_last g g' c c' cursor i q h p = record { is = (rw (ranges_none w n t i h) p.is) ∙ q.is }
+pub pushes_then : {p q r : RangeTable} {ps qs : List Range} → Pushes p ps q → Pushes q qs r → Pushes p (ps ++ qs) r
+pushes_then a b = record { same_reference = b.same_reference ∙ a.same_reference; pushed = pushed_then a.pushed b.pushed }
 
 -- what is pushed is held, where it fits
 
@@ -125,18 +131,47 @@ unfolding pushes
 pushes_count [] q = omega arith
 pushes_count (p ∷ ps) q = omega (arith, pushes_count ps (push q p), push_count q p)
 
+push_long : (t : List ℕ) (c : ℕ) (p : Range) → length (table_of (push (page t c) p)) ≡ length t
+unfolding push table_of
+push_long t c p = go (ltb c (length t / 2))
+  where
+    go : (b : Bool) → length (table_of (cond b (page (set (set t (c * 2) p.0) (c * 2 + 1) p.1) (c + 1)) (page t (c + 1)))) ≡ length t
+    go true = simp length-set
+    go false = refl
+
+pushes_long : (ps : List Range) (q : Page) → length (table_of (pushes q ps)) ≡ length (table_of q)
+unfolding pushes table_of
+pushes_long [] q = refl
+pushes_long (p ∷ ps) (page t c) = pushes_long ps (push (page t c) p) ∙ push_long t c p
+
 words_length : (ps : List Range) → length (concat_map range_words ps) ≡ 2 * length ps
 unfolding concat_map range_words
 words_length [] = refl
 words_length (p ∷ ps) = omega (arith, words_length ps)
 
-pub listed : (ps : List Range) (t t' : List ℕ) (r : ℕ) → length t' ≡ length t → Pushed t 0 ps t' r → Listed ps t t' r
+pub listed : {ps : List Range} {t t' : List ℕ} {r : ℕ} → Pushed t 0 ps t' r → Listed ps t t' r
 unfolding count_of table_of
-listed ps t t' r l p = record {
+listed {ps} {t} {t'} {r} p = record {
   count = let e : r ≡ 0 + length ps = ap count_of p.is ∙ pushes_count ps (page t 0) in omega arith;
-  long = l;
+  long = ap (λ (q : Page). length (table_of q)) p.is ∙ pushes_long ps (page t 0);
   held = λ h.
       let a : 0 + length (concat_map range_words ps) ≡ 2 * length ps = omega (arith, words_length ps) in
       let b : t' ≡ sets t 0 (concat_map range_words ps) = ap table_of p.is ∙ ap table_of (pushes_fit ps t 0 (omega arith)) in
       b ∙ sets-eq (concat_map range_words ps) t 0 (omega arith) ∙ rw a;
 }
+
+-- a loop that pushes: what is left, pushed on what is written, is the whole
+pub record Going (g₀ : List ℕ) (all : List Range) (g : List ℕ) (c : ℕ) (left : List Range) : Type 0 where
+  pub is : pushes (page g c) left ≡ pushes (page g₀ 0) all
+
+pub going_start : (g₀ : List ℕ) (all : List Range) → Going g₀ all g₀ 0 all
+going_start g₀ all = record { is = refl }
+
+module _ {g₀ : List ℕ} {all : List Range} {g : List ℕ} {c : ℕ} {left : List Range} (s : Going g₀ all g c left) where
+  pub going_turn : {p : Range} {ps : List Range} {g' : List ℕ} {c' : ℕ} → left ≡ p ∷ ps → Pushed g c (p ∷ []) g' c' → Going g₀ all g' c' ps
+  unfolding pushes
+  going_turn e w = record { is = rw w.is (rw e at s.is) }
+
+  pub going_done : left ≡ [] → Listed all g₀ g c
+  unfolding pushes
+  going_done e = listed (record { is = rw e at s.is })

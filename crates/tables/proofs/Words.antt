@@ -10,7 +10,7 @@ use Rattle.mdf4.specs.Bytes.{concat_map}
 use Rattle.mdf4.specs.Act.{Kind, ID, HD, DG, CG, CN, SI, TX, MD, DT, SD, DL, UT, UD, Row, Link}
 use Rattle.mdf4.specs.Kinds.{shape}
 use Rattle.mdf4.specs.Answers.{row_words, link_words, block_row_words, pair_words}
-use Rattle.tables.specs.Rows.{kind_of, row_of_words, link_of_words, table, held_rows, held_links, row_at, link_at}
+use Rattle.tables.specs.Rows.{kind_of, row_of_words, row_of, link_of_words, table, held_rows, held_links, row_at, link_at}
 use Rattle.tables.proofs.Tables.{table_length}
 use Rattle.tables.proofs.Sorting.{Place, less, same, more, place}
 
@@ -52,6 +52,52 @@ row_is b i =
       record_id_len = at 10 (omega arith);
     }
 
+-- the row of the block table that has the words of row i
+pub row_read : (t : List ℕ) (i : ℕ) {a e s m k x f n z v d : ℕ}
+    → a ≡ get_or t (i * 12) 0 → e ≡ get_or t (i * 12 + 1) 0 → s ≡ get_or t (i * 12 + 2) 0 → m ≡ get_or t (i * 12 + 3) 0
+    → k ≡ get_or t (i * 12 + 4) 0 → x ≡ get_or t (i * 12 + 5) 0 → f ≡ get_or t (i * 12 + 6) 0 → n ≡ get_or t (i * 12 + 7) 0
+    → z ≡ get_or t (i * 12 + 8) 0 → v ≡ get_or t (i * 12 + 9) 0 → d ≡ get_or t (i * 12 + 10) 0
+    → row_of (record {
+      offset = a;
+      end_offset = e;
+      size = s;
+      mark = m;
+      kind = k;
+      index = x;
+      first_link = f;
+      link_count = n;
+      record_size = z;
+      invalidation_bytes = v;
+      record_id_len = d;
+    }) ≡ row_at i t
+unfolding row_of row_at row_of_words
+row_read t i e0 e1 e2 e3 e4 e5 e6 e7 e8 e9 e10 =
+    let w = row_is t i in
+    rw (
+      e0,
+      e1,
+      e2,
+      e3,
+      e4,
+      e5,
+      e6,
+      e7,
+      e8,
+      e9,
+      e10,
+      ← w.off,
+      ← w.end,
+      ← w.size,
+      ← w.mark,
+      ← w.kind,
+      ← w.index,
+      ← w.first_link,
+      ← w.link_count,
+      ← w.record_size,
+      ← w.invalidation_bytes,
+      ← w.record_id_len,
+    )
+
 pub link_is : (l : List ℕ) (i : ℕ) → link_at i l ≡ record { target = get_or l (i * pair_words) 0; found = get_or l (i * pair_words + 1) 0 }
 unfolding link_at link_of_words
 link_is l i =
@@ -68,7 +114,7 @@ unfolding held_links table link_at
 links_more n l = refl
 
 module _ {A : Type 0} (k : ℕ) (f : List ℕ → A) where
-  table_at : (n i : ℕ) (t : List ℕ) (d : A) → i < n → get_or (table k f n t) i d ≡ f (take k (drop (i * k) t))
+  pub table_at : (n i : ℕ) (t : List ℕ) (d : A) → i < n → get_or (table k f n t) i d ≡ f (take k (drop (i * k) t))
   unfolding table
   table_at zero i t d h = absurd (omega arith)
   table_at (suc n) i t d h = go (place n i) (table_at n i t d)
@@ -81,7 +127,7 @@ module _ {A : Type 0} (k : ℕ) (f : List ℕ → A) where
           ∙ get_or-append_seam (table k f n t) (f (take k (drop (n * k) t))) [] d ∙ ap (λ (j : ℕ). f (take k (drop (j * k) t))) (sym e)
       go (more e) ih = absurd (omega arith)
 
-  table_cons : (n : ℕ) (t : List ℕ) → table k f (suc n) t ≡ f (take k t) ∷ table k f n (drop k t)
+  pub table_cons : (n : ℕ) (t : List ℕ) → table k f (suc n) t ≡ f (take k t) ∷ table k f n (drop k t)
   unfolding table
   table_cons zero t = let e : 0 * k ≡ 0 = omega arith in rw e
   table_cons (suc n) t =

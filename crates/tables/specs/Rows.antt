@@ -2,6 +2,7 @@
 use Rattle.std.specs.Prelude.{◌≡◌, List, [], ◌∷◌, ◌++◌, ℕ, zero, suc, ◌*◌, ◌≤◌, length, get_or, take, drop}
 use Rattle.mdf4.specs.Act.{Kind, ID, HD, DG, CG, CN, SI, TX, MD, DT, SD, DL, UT, UD, Row, Link}
 use Rattle.mdf4.specs.Answers.{block_row_words, pair_words, filled}
+use Rattle.tables.specs.declared.BlockInfo.{BlockInfo}
 
 -- the kind of document 01's number
 unfoldable pub kind_of : ℕ → Kind
@@ -22,6 +23,26 @@ row_of_words t = record {
   invalidation_bytes = get_or t 9 0;
   record_id_len = get_or t 10 0;
 }
+
+-- a row of the block table as the code has it, and the words that it is stored as: the last one is the tree mark
+unfoldable pub row_of : BlockInfo → Row
+row_of b = record {
+  off = b.offset;
+  end = b.end_offset;
+  size = b.size;
+  mark = b.mark;
+  kind = kind_of b.kind;
+  index = b.index;
+  first_link = b.first_link;
+  link_count = b.link_count;
+  record_size = b.record_size;
+  invalidation_bytes = b.invalidation_bytes;
+  record_id_len = b.record_id_len;
+}
+
+abbrev pub info_words : BlockInfo → List ℕ
+info_words b =
+    b.offset ∷ b.end_offset ∷ b.size ∷ b.mark ∷ b.kind ∷ b.index ∷ b.first_link ∷ b.link_count ∷ b.record_size ∷ b.invalidation_bytes ∷ b.record_id_len ∷ 0 ∷ []
 
 unfoldable pub link_of_words : List ℕ → Link
 link_of_words t = record { target = get_or t 0 0; found = get_or t 1 0 }

@@ -1,51 +1,39 @@
--- `blanking::put_counts` meets its contract. The invariant: the ranges found are counted.
-use mathlib.Core.Path.{refl, ◌∙◌}
-use native.Mathlib.Omega.{arith}
-use lib.ListN.{length-set}
-use Rattle.clear_ranges.proofs.Sweeping.{going, among, turn, done, fewer}
+-- `put_counts` meets its contract. The invariant: the ranges found are counted.
+use Rattle.std.proofs.Common.{arith}
+use Rattle.clear_ranges.proofs.Sweeping.{going, among, turn, done}
 use Rattle.blanking.proofs.Zeroing.{next_inner}
-use Rattle.blanking.proofs.Counting.{counting, total_most, count_room, count_turn}
+use Rattle.blanking.proofs.Counting.{counting, total_most, count_room, count_turn, part_counted}
 use Rattle.blanking.proofs.put_counts.Goals as goal
 
-pub loop-found-init : goal.loop-found-init
-loop-found-init c = (refl, going (counting _ _))
+pub loop-at-init : goal.loop-at-init
+loop-at-init c =
+    rw (c.into_iter-at-iterator.ensures.into_iter_gives, c.enumerate-at-items.ensures.source, c.enumerate-at-items.ensures.count)
+    (going c.sweep.ensures (counting _ _))
 
-pub returns-in_default : goal.returns-in_default
-returns-in_default c = (done c.loop-found.invariant.1 c.next_range-next.ensures c.in_default.is).so_far
+pub slice_bounds-count_nonzero-count : goal.slice_bounds-count_nonzero-count
+slice_bounds-count_nonzero-count c = (next_inner c.requires.1 c.loop-at.invariant c.in-Some.ensures.steps.0).0
 
-pub count_nonzero-count-requires : goal.count_nonzero-count-requires
-count_nonzero-count-requires c = next_inner c.requires.1 c.loop-found.invariant.1 c.next_range-next.ensures c.in-Range.is
+pub slice_bounds-count_nonzero-start : goal.slice_bounds-count_nonzero-start
+slice_bounds-count_nonzero-start c = let h = next_inner c.requires.1 c.loop-at.invariant c.in-Some.ensures.steps.0 in omega arith
 
-pub offset_bounds-counts-at : goal.offset_bounds-counts-at
-offset_bounds-counts-at c =
-    let l = c.loop-found.invariant in
-    let e = among l.1 c.next_range-next.ensures c.in-Range.is in
-    omega (arith, count_room l.1.holds _ _ e c.requires.2)
-
-pub bounds-counts-at : goal.bounds-counts-at
-bounds-counts-at c =
-    let l = c.loop-found.invariant in
-    let e = among l.1 c.next_range-next.ensures c.in-Range.is in
-    omega (arith, count_room l.1.holds _ _ e c.requires.2)
+pub slice_bounds-count_nonzero-end : goal.slice_bounds-count_nonzero-end
+slice_bounds-count_nonzero-end c = let h = next_inner c.requires.1 c.loop-at.invariant c.in-Some.ensures.steps.0 in omega arith
 
 pub overflow_add-total : goal.overflow_add-total
 overflow_add-total c =
-    let l = c.loop-found.invariant in
-    let e = among l.1 c.next_range-next.ensures c.in-Range.is in
-    omega (arith, total_most l.1.holds _ _ c.requires.1 e, c.count_nonzero-count.ensures)
+    let l = c.loop-at.invariant in
+    let s = c.in-Some.ensures.steps.0 in
+    let h = next_inner c.requires.1 l s in
+    let e = part_counted c.args.«data».now _ _ h.0 h.1 c.count_nonzero-count.ensures in
+    omega (arith, total_most l.holds _ _ c.requires.1 (among l s))
 
-pub overflow_add-at : goal.overflow_add-at
-overflow_add-at c =
-    let l = c.loop-found.invariant in
-    let e = among l.1 c.next_range-next.ensures c.in-Range.is in
-    omega (arith, count_room l.1.holds _ _ e c.requires.2)
+pub loop-at-preserved : goal.loop-at-preserved
+loop-at-preserved c =
+    let l = c.loop-at.invariant in
+    let s = c.in-Some.ensures.steps in
+    let h = next_inner c.requires.1 l s.0 in
+    let e = part_counted c.args.«data».now _ _ h.0 h.1 c.count_nonzero-count.ensures in
+    rw (s.1, s.2) (turn l s.0 (λ ps d p. count_turn p _ (count_room p _ _ d c.requires.2) e))
 
-pub loop-found-smaller : goal.loop-found-smaller
-loop-found-smaller c = fewer c.in-Range.is c.next_range-next.ensures
-
-pub loop-found-preserved : goal.loop-found-preserved
-loop-found-preserved c =
-    let l = c.loop-found.invariant in (
-      length-set c.loop-found.counts c.loop-found.at c.count_nonzero-count.result ∙ l.0,
-      turn l.1 c.next_range-next.ensures c.in-Range.is (λ ps rest e p. count_turn p _ (count_room p _ _ e c.requires.2) c.count_nonzero-count.ensures),
-    )
+pub returns : goal.returns
+returns c = (done c.loop-at.invariant c.in-None.ensures.steps.0.0).so_far

@@ -1,13 +1,14 @@
--- `blanking::put_counts` meets its contract. The invariant: the ranges found are counted.
-use mathlib.Core.Path.{◌≡◌}
-use lib.ListN.{length}
-use Rattle.clear_ranges.specs.Sweep.{left_from}
+-- `put_counts` meets its contract. The invariant: the ranges found are counted.
+use Rattle.std.proofs.Common.{length}
+use Rattle.std.specs.Iterator.Adapters.{enumerate_source, enumerate_count}
+use Rattle.mdf4.specs.Layout.{compute_gaps}
+use Rattle.mdf4.specs.Demand3.{ranges_in}
+use Rattle.tables.specs.Gaps.{gaps_left}
 use Rattle.clear_ranges.proofs.Sweeping.{Going}
 use Rattle.blanking.proofs.Counting.{Counting}
 use Rattle.blanking.proofs.put_counts.Given as goal
 
-abbrev pub invariant-loop-found : goal.invariant-loop-found
-invariant-loop-found l = (length l.counts ≡ length l.initial.counts) × Going (Counting l.data l.initial.counts l.counts l.total l.at) (length l.data) l.n l.t l.row l.cursor
-
-abbrev pub decreases-loop-found : goal.decreases-loop-found
-decreases-loop-found l = length (left_from (length l.data) l.n l.t l.row l.cursor)
+abbrev pub invariant-loop-at : goal.invariant-loop-at
+invariant-loop-at l =
+    Going (Counting l.data l.initial.counts l.counts l.total (enumerate_count l.at-iterator))
+    (compute_gaps (length l.data) 0 (ranges_in 2 l.n l.t)) (gaps_left (enumerate_source l.at-iterator))

@@ -1,25 +1,24 @@
--- `blanking::zero_ranges` meets its contract. The invariant: the ranges found are zero, and no other byte is changed.
-use mathlib.Core.Path.{refl, sym}
-use native.Mathlib.Omega.{arith}
+-- `zero_ranges` meets its contract. The invariant: the ranges found are zero, and no other byte is changed.
+use Rattle.std.proofs.Common.{sym, arith}
 use Rattle.mdf4.proofs.Zeroed.{zeroed_none}
-use Rattle.clear_ranges.proofs.Sweeping.{going, turn, done, fewer}
-use Rattle.blanking.proofs.Zeroing.{next_inner, zero_turn}
+use Rattle.clear_ranges.proofs.Sweeping.{going, turn}
+use Rattle.blanking.proofs.Zeroing.{next_inner, zero_turn, zero_part}
 use Rattle.blanking.proofs.zero_ranges.Goals as goal
 
-pub loop-found-init : goal.loop-found-init
-loop-found-init c = (refl, going (sym (zeroed_none 0 _)))
+pub loop-range-init : goal.loop-range-init
+loop-range-init c = going (rw c.into_iter-range-iterator.ensures.into_iter_gives c.sweep-range-items.ensures) (sym (zeroed_none 0 _))
 
-pub returns-in_default : goal.returns-in_default
-returns-in_default c = done c.loop-found.invariant.1 c.next_range-next.ensures c.in_default.is
+pub slice_bounds-fill-count : goal.slice_bounds-fill-count
+slice_bounds-fill-count c = (next_inner c.requires.1 c.loop-range.invariant c.in-Some.ensures.steps).0
 
-pub zero_range-requires : goal.zero_range-requires
-zero_range-requires c =
-    let l = c.loop-found.invariant in
-    let h = next_inner c.requires.1 l.1 c.next_range-next.ensures c.in-Range.is in
-    (omega (arith, h.0, h.1, l.0), omega (arith, h.1, l.0))
+pub slice_bounds-fill-start : goal.slice_bounds-fill-start
+slice_bounds-fill-start c = let h = next_inner c.requires.1 c.loop-range.invariant c.in-Some.ensures.steps in omega arith
 
-pub loop-found-smaller : goal.loop-found-smaller
-loop-found-smaller c = fewer c.in-Range.is c.next_range-next.ensures
+pub slice_bounds-fill-end : goal.slice_bounds-fill-end
+slice_bounds-fill-end c = let h = next_inner c.requires.1 c.loop-range.invariant c.in-Some.ensures.steps in omega arith
 
-pub loop-found-preserved : goal.loop-found-preserved
-loop-found-preserved c = (omega arith, turn c.loop-found.invariant.1 c.next_range-next.ensures c.in-Range.is (λ ps rest e p. zero_turn _ _ ps p c.zero_range.ensures))
+pub loop-range-preserved : goal.loop-range-preserved
+loop-range-preserved c =
+    let h = next_inner c.requires.1 c.loop-range.invariant c.in-Some.ensures.steps in
+    let filled = c.fill.ensures.after (λ y e. e) in
+    turn c.loop-range.invariant c.in-Some.ensures.steps (λ ps e p. zero_turn _ _ ps p (zero_part _ _ _ h.0 (omega arith) filled))

@@ -1,25 +1,11 @@
--- `find_row` meets its contract. The invariant: the row lies between. Assumes nothing.
-use native.Mathlib.Omega.{arith}
-use Rattle.block_search.proofs.Searching.{between, go_up, go_down, found_none, found_other, found_row}
+-- `find_row` meets its contract: a row's first word is its offset, by which the library searches.
+use Rattle.std.proofs.Common.{rules, get_or}
+use Rattle.std.proofs.lemmas.List.Sorted.{answers_always}
+use Rattle.block_search.proofs.Searching.{found}
 use Rattle.block_search.proofs.find_row.Goals as goal
 
-pub loop-low-init : goal.loop-low-init
-loop-low-init c = (omega arith, omega arith, between _ _ _)
-
-pub loop-low-preserved-then-blocks-middle : goal.loop-low-preserved-then-blocks-middle
-loop-low-preserved-then-blocks-middle c =
-    (omega arith, omega arith, go_up _ _ _ _ _ _ (omega arith) c.if-blocks-middle.true c.loop-low.invariant.2)
-
-pub loop-low-preserved : goal.loop-low-preserved
-loop-low-preserved c =
-    (omega arith, omega arith, go_down _ _ _ _ _ _ c.if-blocks-middle.false c.loop-low.invariant.2)
-
-pub returns-then-n-low : goal.returns-then-n-low
-returns-then-n-low c = found_none _ _ _ _ _ c.if-n-low.true c.loop-low.invariant.2
-
-pub returns-then-blocks-low : goal.returns-then-blocks-low
-returns-then-blocks-low c =
-    found_other _ _ _ _ _ c.loop-low-test.false c.if-n-low.false c.if-blocks-low.true c.loop-low.invariant.2
-
 pub returns : goal.returns
-returns c = found_row _ _ _ _ c.if-n-low.false c.if-blocks-low.false
+returns c =
+    let facts = c.binary_search_by_key.ensures in
+    let by_offset = facts.position (λ row. get_or row 0 0) (answers_always _ _ _ (λ f a r g called. search rules)) in
+    rw c.ok.ensures.value (found c.args.n c.args.blocks.now c.args.offset _ c.first_rows-rows.ensures _ facts.bound by_offset)

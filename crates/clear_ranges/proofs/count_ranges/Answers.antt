@@ -1,20 +1,10 @@
--- `clear_ranges::count_ranges` meets its contract. The invariant: the ranges found are counted.
-use mathlib.Core.Path.{refl}
-use native.Mathlib.Omega.{arith}
-use Rattle.clear_ranges.proofs.Sweeping.{going, turn, done, fewer, count_most, count_turn}
+-- `count_ranges` meets its contract: n rows leave n + 1 ranges at most.
+use Rattle.std.proofs.Common.{inl, arith}
+use Rattle.mdf4.specs.Demand3.{ranges_in}
+use Rattle.tables.proofs.Gapping.{gaps_most, ranges_length}
 use Rattle.clear_ranges.proofs.count_ranges.Goals as goal
 
-pub loop-found-init : goal.loop-found-init
-loop-found-init c = going refl
-
-pub returns-in_default : goal.returns-in_default
-returns-in_default c = done c.loop-found.invariant c.next_range-next.ensures c.in_default.is
-
-pub overflow_add-count : goal.overflow_add-count
-overflow_add-count c = omega (arith, count_most c.loop-found.invariant)
-
-pub loop-found-smaller : goal.loop-found-smaller
-loop-found-smaller c = fewer c.in-Range.is c.next_range-next.ensures
-
-pub loop-found-preserved : goal.loop-found-preserved
-loop-found-preserved c = turn c.loop-found.invariant c.next_range-next.ensures c.in-Range.is (λ ps rest e p. count_turn _ ps p)
+pub count-requires-clause-fits : goal.count-requires-clause-fits
+count-requires-clause-fits c =
+    let a = c.args in
+    inl (rw c.sweep.ensures (omega (arith, gaps_most a.len 0 (ranges_in 2 a.n a.t.now), ranges_length 2 a.n a.t.now)))

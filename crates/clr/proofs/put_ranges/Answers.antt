@@ -1,19 +1,16 @@
--- `clr::put_ranges` meets its contract. The invariant: the ranges found are written.
-use mathlib.Core.Path.{refl}
-use native.Mathlib.Omega.{arith}
-use Rattle.fmt.proofs.Text.{then}
-use Rattle.clear_ranges.proofs.Sweeping.{going, turn, done, fewer}
+-- `put_ranges` meets its contract. The invariant: the ranges found are written.
+use Rattle.clear_ranges.proofs.Sweeping.{going, turn, done}
 use Rattle.clr.proofs.Writing.{write_none, write_turn}
 use Rattle.clr.proofs.put_ranges.Goals as goal
 
-pub loop-found-init : goal.loop-found-init
-loop-found-init c = (refl, going (write_none _ _))
+pub loop-range-init : goal.loop-range-init
+loop-range-init c = going (rw c.into_iter-range-iterator.ensures.into_iter_gives c.sweep-range-items.ensures) (write_none _)
 
-pub returns-in_default : goal.returns-in_default
-returns-in_default c = done c.loop-found.invariant.1 c.next_range-next.ensures c.in_default.is
+pub loop-range-preserved : goal.loop-range-preserved
+loop-range-preserved c =
+    let start = rw c.to_le_bytes.ensures at c.put_bytes.ensures in
+    let end = rw c.to_le_bytes-in-loop-range.ensures at c.put_bytes-in-loop-range.ensures in
+    turn c.loop-range.invariant c.in-Some.ensures.steps (λ ps e p. write_turn _ ps p start end)
 
-pub loop-found-smaller : goal.loop-found-smaller
-loop-found-smaller c = fewer c.in-Range.is c.next_range-next.ensures
-
-pub loop-found-preserved : goal.loop-found-preserved
-loop-found-preserved c = (omega arith, turn c.loop-found.invariant.1 c.next_range-next.ensures c.in-Range.is (λ ps rest e p. write_turn _ _ ps p (then c.put_le-a.ensures c.put_le-a-in-loop-found.ensures)))
+pub returns : goal.returns
+returns c = done c.loop-range.invariant c.in-None.ensures.steps.0

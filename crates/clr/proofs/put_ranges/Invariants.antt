@@ -1,15 +1,13 @@
--- `clr::put_ranges` meets its contract. The invariant: the ranges found are written.
-use mathlib.Core.Path.{◌≡◌}
-use lib.ListN.{length}
-use Rattle.fmt.specs.Text.{Wrote}
+-- `put_ranges` meets its contract. The invariant: the ranges found are written.
+use Rattle.fmt.specs.Text.{Writes}
 use Rattle.mdf4.specs.Bytes.{concat_map}
 use Rattle.mdf4.specs.Clear.{range_bytes}
-use Rattle.clear_ranges.specs.Sweep.{left_from}
+use Rattle.mdf4.specs.Layout.{compute_gaps}
+use Rattle.mdf4.specs.Demand3.{ranges_in}
+use Rattle.tables.specs.Gaps.{gaps_left}
 use Rattle.clear_ranges.proofs.Sweeping.{Going}
 use Rattle.clr.proofs.put_ranges.Given as goal
 
-abbrev pub invariant-loop-found : goal.invariant-loop-found
-invariant-loop-found l = (length l.out ≡ length l.initial.out) × Going (λ ps. Wrote l.initial.out l.start (concat_map range_bytes ps) l.out l.a) l.len l.n l.t l.row l.cursor
-
-abbrev pub decreases-loop-found : goal.decreases-loop-found
-decreases-loop-found l = length (left_from l.len l.n l.t l.row l.cursor)
+abbrev pub invariant-loop-range : goal.invariant-loop-range
+invariant-loop-range l =
+    Going (λ ps. Writes l.initial.page (concat_map range_bytes ps) l.page) (compute_gaps l.len 0 (ranges_in 2 l.n l.t)) (gaps_left l.range-iterator)

@@ -1,27 +1,27 @@
--- `scratch_rows::put_links` meets its contract. The invariant: the ranges of the links before i are pushed.
-use mathlib.Core.Path.{refl}
-use native.Mathlib.Omega.{arith}
-use Rattle.mdf4.specs.Bytes.{concat_map}
-use Rattle.tables.specs.Gaps.{Pushed}
-use Rattle.tables.specs.Rows.{held_links}
-use Rattle.scratch_rows.specs.Covers.{link_cover}
-use Rattle.scratch_rows.proofs.Filling.{links_none, link_turn, at_end}
+-- `put_links` meets its contract. The invariant: the ranges of the links passed are pushed.
+use Rattle.std.proofs.Common.{◌≡◌, List, [], ℕ, ◌*◌, get_or, take, drop, length, ap, ◌∙◌, arith}
+use Rattle.tables.proofs.Tables.{table_length}
+use Rattle.tables.proofs.Words.{table_at}
+use Rattle.scratch_rows.proofs.Filling.{links_none, link_turn}
 use Rattle.scratch_rows.proofs.put_links.Goals as goal
 
-pub loop-i-init : goal.loop-i-init
-loop-i-init c = (omega arith, omega arith, refl, links_none _ _ _ _)
+pub loop-link-init : goal.loop-link-init
+loop-link-init c = (links_none _ _ _, omega arith)
 
-pub put_link-count-requires : goal.put_link-count-requires
-put_link-count-requires c = omega arith
-
-pub loop-i-smaller : goal.loop-i-smaller
-loop-i-smaller c = omega arith
-
-pub loop-i-preserved : goal.loop-i-preserved
-loop-i-preserved c = (omega arith, omega arith, omega arith, link_turn _ _ _ c.loop-i.invariant.3 c.put_link-count.ensures.0)
+pub loop-link-preserved : goal.loop-link-preserved
+loop-link-preserved c =
+    let a = c.args in
+    let rows = c.first_rows-link-items in
+    let i = c.loop-link.link-index in
+    let long = ap length rows.ensures ∙ table_length 2 (λ row. row) a.m a.links.now in
+    let at : get_or rows.result.now i [] ≡ take 2 (drop (i * 2) a.links.now) =
+    ap (λ (t : List (List ℕ)). get_or t i []) rows.ensures ∙ table_at 2 (λ row. row) a.m i a.links.now [] (omega arith) in
+    (link_turn _ _ _ _ at c.loop-link.invariant.0 c.put_link.ensures.pushed, omega (arith, c.put_link.ensures.count))
 
 pub returns : goal.returns
 returns c =
     let a = c.args in
-    let l = c.loop-i in
-    (at_end (λ i. Pushed a.scratch.now a.start (concat_map (link_cover a.file.now) (held_links i a.links.now)) l.scratch l.count) l.invariant.0 c.loop-i-test.false l.invariant.3, omega arith)
+    let long = ap length c.first_rows-link-items.ensures ∙ table_length 2 (λ row. row) a.m a.links.now in
+    let e : c.loop-link.link-index ≡ a.m = omega arith in
+    let p = c.loop-link.invariant in
+    record { pushed = rw e at p.0; count = rw e at p.1 }

@@ -1,36 +1,32 @@
--- `scratch_rows::put_name` meets its contract.
-use native.Mathlib.Omega.{arith}
-use mathlib.Core.Path.{◌∙◌, sym}
-use Rattle.scratch_rows.proofs.Filling.{pushed_no}
+-- `put_name` meets its contract.
+use Rattle.std.proofs.Common.{sym, ◌∙◌, arith}
+use Rattle.scratch_rows.proofs.Filling.{pushes_no}
 use Rattle.scratch_rows.proofs.NameCovers.{name_null, name_far, name_other, name_fits, name_cut}
 use Rattle.scratch_rows.proofs.put_name.Goals as goal
+use Rattle.scratch_rows.proofs.put_name.Goals.{then-target-eq0-via-then-target-eq0, then-target-eq0-via-else-target-eq0+then-len-lt-MIN_LEN, then-target-eq0-via-else-target-eq0+else-len-lt-MIN_LEN+then-len-target}
 
-pub returns-then-target-eq0 : goal.returns-then-target-eq0
-returns-then-target-eq0 c =
+pub returns-then-target-eq0-clause-pushed : goal.returns-then-target-eq0-clause-pushed
+returns-then-target-eq0-clause-pushed c =
     let a = c.args in
-    (pushed_no _ _ (name_null a.file.now a.target c.if-target-eq0.true), omega arith)
+    elim c.then-target-eq0.branch [
+      | then-target-eq0-via-then-target-eq0 w ↦ pushes_no _ (name_null a.file.now a.target w.if-target-eq0.true)
+      | then-target-eq0-via-else-target-eq0+then-len-lt-MIN_LEN w ↦ pushes_no _ (name_far a.file.now a.target (omega arith))
+      | then-target-eq0-via-else-target-eq0+else-len-lt-MIN_LEN+then-len-target w ↦ pushes_no _ (name_far a.file.now a.target (omega arith))
+    ]
 
-pub returns-then-len-lt-MIN_LEN : goal.returns-then-len-lt-MIN_LEN
-returns-then-len-lt-MIN_LEN c =
+pub returns-then-read_u32-ne-ID-clause-pushed : goal.returns-then-read_u32-ne-ID-clause-pushed
+returns-then-read_u32-ne-ID-clause-pushed c =
     let a = c.args in
-    (pushed_no _ _ (name_far a.file.now a.target (omega arith)), omega arith)
+    pushes_no _ (name_other a.file.now a.target c.if-target-eq0.false (omega arith) (λ e. c.if-read_u32-ne-ID.true (c.read_u32.ensures ∙ e)))
 
-pub returns-then-len-target : goal.returns-then-len-target
-returns-then-len-target c =
+pub returns-then-len-target-2-clause-pushed : goal.returns-then-len-target-2-clause-pushed
+returns-then-len-target-2-clause-pushed c =
     let a = c.args in
-    (pushed_no _ _ (name_far a.file.now a.target (omega arith)), omega arith)
+    rw (name_cut a.file.now a.target c.if-target-eq0.false (omega arith) (sym c.read_u32.ensures ∙ c.if-read_u32-ne-ID.false) {x = c.max-size.result} (omega arith) (omega arith))
+    c.push.ensures.pushed
 
-pub returns-then-read_u32-ne-ID : goal.returns-then-read_u32-ne-ID
-returns-then-read_u32-ne-ID c =
+pub returns-else-len-target-2-clause-pushed : goal.returns-else-len-target-2-clause-pushed
+returns-else-len-target-2-clause-pushed c =
     let a = c.args in
-    (pushed_no _ _ (name_other a.file.now a.target c.if-target-eq0.false (omega arith) (λ e. c.if-read_u32-ne-ID.true (c.read_u32.ensures ∙ e))), omega arith)
-
-pub returns-then-len-target-2 : goal.returns-then-len-target-2
-returns-then-len-target-2 c =
-    let a = c.args in
-    (rw (name_cut a.file.now a.target c.if-target-eq0.false (omega arith) (sym c.read_u32.ensures ∙ c.if-read_u32-ne-ID.false) {x = c.larger-size.result} (omega arith) (omega arith)) c.put_range.ensures.0, omega arith)
-
-pub returns : goal.returns
-returns c =
-    let a = c.args in
-    (rw (name_fits a.file.now a.target c.if-target-eq0.false (omega arith) (sym c.read_u32.ensures ∙ c.if-read_u32-ne-ID.false) {x = c.larger-size.result} (omega arith) (omega arith)) c.put_range-2.ensures.0, omega arith)
+    rw (name_fits a.file.now a.target c.if-target-eq0.false (omega arith) (sym c.read_u32.ensures ∙ c.if-read_u32-ne-ID.false) {x = c.max-size.result} (omega arith) (omega arith))
+    c.push-else-len-target-2.ensures.pushed

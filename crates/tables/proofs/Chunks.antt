@@ -1,0 +1,20 @@
+-- The rows of a flat table as arrays, and the ranges that these tell.
+use Rattle.std.proofs.Common.{◌≡◌, List, ℕ, zero, suc, ◌≤◌, take, drop, map, refl, arith}
+use lib.Seq.{get_or-take}
+use Rattle.std.specs.Simd.{first_chunks}
+use Rattle.mdf4.specs.Demand3.{ranges_in}
+use Rattle.tables.specs.Gaps.{range_of}
+use Rattle.tables.specs.Rows.{table}
+use Rattle.tables.proofs.Words.{table_cons}
+
+pub take-first_chunks : (w n m : ℕ) (t : List ℕ) → n ≤ m → take n (first_chunks w m t) ≡ table w (λ row. row) n t
+unfolding table
+take-first_chunks w zero m t h = refl
+take-first_chunks w (suc n) zero t h = absurd (omega arith)
+take-first_chunks w (suc n) (suc m) t h = rw (table_cons w (λ row. row) n t, take-first_chunks w n m (drop w t) (omega arith))
+
+pub map-table : (w n : ℕ) (t : List ℕ) → 2 ≤ w → map range_of (table w (λ row. row) n t) ≡ ranges_in w n t
+unfolding table ranges_in
+map-table w zero t h = refl
+map-table w (suc n) t h =
+    rw (table_cons w (λ row. row) n t, map-table w n (drop w t) h, get_or-take w t 0 0 (omega arith), get_or-take w t 1 0 (omega arith))
