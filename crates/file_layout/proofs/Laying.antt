@@ -1,4 +1,6 @@
 -- From zeroed tables over the walk to the layout that stands in them, step by step, and how each step refuses. Assumes nothing.
+use Rattle.std.specs.Prelude as std
+use Rattle.std.specs.Result.{IsErrAnd}
 use mathlib.Core.Path.{◌≡◌, refl, sym, ap, ◌∙◌}
 use mathlib.Core.Bool.{Bool, true, false, cond}
 use mathlib.Core.List.{List, [], ◌∷◌, ◌++◌}
@@ -23,21 +25,21 @@ use Rattle.tables.specs.Blocks.{Ordered}
 use Rattle.tables.specs.Gaps.{Listed}
 use Rattle.mdf4.proofs.Demand3.{rows_in}
 use Rattle.tables.proofs.Words.{rows_length, links_length}
-use Rattle.walk_state.specs.Held.{held, said, Within, Met}
+use Rattle.walk_state.specs.Held.{holds, outcome, Walks}
+use Rattle.walk_state.specs.Within.{held, none, Within}
 use Rattle.walk_state.specs.declared.Walk.{Walk}
-use Rattle.walk_state.specs.declared.Walked.{Walked}
-use Rattle.walk_state.specs.declared.Walked.TheVariants.{On, Refused}
-use Rattle.walk_state.proofs.Start.{none, held_none, within_none}
+use Rattle.walk_state.specs.declared.Walker.{Walker}
+use Rattle.walk_state.proofs.Start.{held_none, within_none}
 use Rattle.blocks.specs.Errors.{numbers}
 use Rattle.blocks.specs.declared.error.MdfError.{MdfError}
-use Rattle.file_layout.specs.declared.Laid.{Laid}
-use Rattle.file_layout.specs.Tables.{lent, Zeroed, Walks, WalkMet, Stands, LaidMet}
+use Rattle.file_layout.specs.declared.Rows.{Rows}
+use Rattle.file_layout.specs.Tables.{lent, Zeroed, WalkMet, Stands, LaidMet}
+use Rattle.file_layout.specs.Tables as tables
 
--- an answer of the walk, without its stopping block
-said_state : (m : Result Stop (Unit {0} × State)) (o : Out State) → said m ≡ o → and_then (reason m) (λ p. ok p.1) ≡ o
-unfolding reason and_then
-said_state (ok p) o e = e
-said_state (err z) o e = e
+-- what an answer of the walk says, without its stopping block
+said_state : (m : Result Stop (Unit {0} × State)) (x : std.Result (Unit {0}) MdfError) (s : State) → outcome (λ (u : Unit {0}). u) x s ≡ reason m
+    → and_then (reason m) (λ p. ok p.1) ≡ and_then (outcome (λ (u : Unit {0}). u) x s) (λ p. ok p.1)
+said_state m x s e = rw e
 
 -- words and zeros behind them
 pub filled_is : (k : ℕ) (xs t : List ℕ) → t ≡ xs ++ replicate k 0 → t ≡ filled (length t) xs
@@ -64,59 +66,84 @@ unfolding sort
 sort_length [] = refl
 sort_length (w ∷ ws) = insert_length w (sort ws) ∙ ap (λ (j : ℕ). suc j) (sort_length ws)
 
+-- the counts of a walk that starts, as `Walk::default` ensures them
+abbrev IsNone : Walk → Type 0
+IsNone k = (k.visited ≡ 0) × ((k.blocks ≡ 0) × ((k.links ≡ 0) × ((k.dg ≡ 0) × ((k.cg ≡ 0) × (k.cn ≡ 0)))))
+
+none_is : (k : Walk) → IsNone k → k ≡ none
+none_is k d =
+    let e : ◌≡◌ {A = Walk} (record { visited = k.visited; blocks = k.blocks; links = k.links; dg = k.dg; cg = k.cg; cn = k.cn }) none =
+    rw (d.0, d.1.0, d.1.1.0, d.1.1.1.0, d.1.1.1.1.0, d.1.1.1.1.1) in
+    e
+
 -- zeroed tables hold the state in which the walk starts
-module _ {v b l g v1 b1 l1 g1 : List ℕ} (z : Zeroed v b l g v1 b1 l1 g1) where
-  pub within_zeroed : Within none v1 b1 l1
-  within_zeroed = rw (z.visited, z.blocks, z.links) (within_none (length v) (length b) (length l))
+module _ {v b l g v1 b1 l1 g1 : List ℕ} (z : Zeroed v b l g v1 b1 l1 g1) {k : Walk}
+    (d : IsNone k) where
+  pub within_zeroed : Within k v1 b1 l1
+  within_zeroed = rw (none_is k d, z.visited, z.blocks, z.links) (within_none (length v) (length b) (length l))
 
-  module _ (scratch out : ℕ) (r : List ℕ) where
-    start_is : held none v1 b1 l1 ≡ start (limits (lent v b l g scratch out))
+  module _ (scratch out : ℕ) where
+    start_is : held k v1 b1 l1 ≡ start (limits (lent v b l g scratch out))
     unfolding limits
-    start_is =
-        held_none v1 b1 l1
-        ∙ rw (zeros_long (length v) z.visited, zeros_long (length b) z.blocks, zeros_long (length l) z.links)
+    start_is = rw (none_is k d) (held_none v1 b1 l1 ∙ rw (zeros_long (length v) z.visited, zeros_long (length b) z.blocks, zeros_long (length l) z.links))
 
-    walk_says : (o : Out State) → said (walk r (held none v1 b1 l1)) ≡ o → walk_state (limits (lent v b l g scratch out)) r ≡ o
-    unfolding walk_state
-    walk_says o e = said_state (walk r (start (limits (lent v b l g scratch out)))) o (rw start_is at e)
+    -- the walk went through, or it refused; the tables are let go
+    module _ {w w1 : Walker} (i : holds w ≡ held k v1 b1 l1) where
+      walked : {x : std.Result (Unit {0}) MdfError} → Walks w x w1 walk
+          → walk_state (limits (lent v b l g scratch out)) w.file.now ≡ and_then (outcome (λ (u : Unit {0}). u) x (holds w1)) (λ p. ok p.1)
+      unfolding walk_state
+      walked m = rw (← start_is, ← i) (said_state _ _ _ m.says)
 
-    pub walk_met : (x : Walked) {v2 b2 l2 : List ℕ} → Met none x v2 b2 l2 (said (walk r (held none v1 b1 l1)))
-        → length v2 ≡ length v1 → length b2 ≡ length b1 → length l2 ≡ length l1 → WalkMet (lent v b l g scratch out) r x v2 b2 l2 g1
-    walk_met (On w) m kv kb kl = record {
-      is = record {
-        is = walk_says _ (sym m.says);
-        within = m.after.within;
-        visited_long = kv ∙ zeros_long (length v) z.visited;
-        blocks_long = kb ∙ zeros_long (length b) z.blocks;
-        links_long = kl ∙ zeros_long (length l) z.links;
-        gaps_zero = z.gaps;
-      };
-    }
-    walk_met (Refused e) m kv kb kl = record { is = walk_says _ (sym m.says) }
+      pub walk_met : {u : Unit {0}} {v2 b2 l2 : List ℕ} → Walks w (std.Ok u) w1 walk → v2 ≡ w1.visited.now → b2 ≡ w1.blocks.now → l2 ≡ w1.links.now
+          → length w.visited.now ≡ length v1 → length w.blocks.now ≡ length b1 → length w.links.now ≡ length l1
+          → WalkMet (lent v b l g scratch out) w.file.now (std.Ok w1.walk) v2 b2 l2 g1
+      unfolding and_then
+      walk_met m ev eb el nv nb nl = rw (ev, eb, el) (record {
+        is = record {
+          is = walked m;
+          within = w1.within;
+          visited_long = m.keeps.visited_long ∙ nv ∙ zeros_long (length v) z.visited;
+          blocks_long = m.keeps.blocks_long ∙ nb ∙ zeros_long (length b) z.blocks;
+          links_long = m.keeps.links_long ∙ nl ∙ zeros_long (length l) z.links;
+          gaps_zero = z.gaps;
+        };
+      })
 
--- the answers of `walk_file`
-module _ {n : Lent} {r v b l g : List ℕ} {x : Walked} where
-  pub walked_on : {w : Walk} → x ≡ On w → WalkMet n r x v b l g → Walks n r w v b l g
-  walked_on e m = let k = rw e at m in k.is
+      walk_refuses : {e : MdfError} → Walks w (std.Err e) w1 walk → walk_state (limits (lent v b l g scratch out)) w.file.now ≡ err (numbers e)
+      unfolding and_then
+      walk_refuses m = walked m
 
-  pub walk_refused : (asked : Out (Unit {0})) {e : MdfError} → x ≡ Refused e → WalkMet n r x v b l g → layout_if asked (limits n) (n.gaps / pair_words) r ≡ err (numbers e)
-  unfolding layout_if and_then
-  walk_refused asked e m = let k = rw e at m in rw k.is
+      pub walk_stopped : {e : MdfError} {x : std.Result Walk MdfError} {v2 b2 l2 : List ℕ} → IsErrAnd x (λ y. y ≡ e) → Walks w (std.Err e) w1 walk
+          → WalkMet (lent v b l g scratch out) w.file.now x v2 b2 l2 g1
+      walk_stopped {x = std.Ok a} h m = absurd h
+      walk_stopped {x = std.Err a} h m = record { is = rw h (walk_refuses m) }
+
+-- a refusal that `?` hands up is the layout's
+laid_stopped : {asked : Out (Unit {0})} {n : Lent} {r v b l g : List ℕ} (e : MdfError) (x : std.Result Rows MdfError) → IsErrAnd x (λ y. y ≡ e)
+    → layout_if asked (limits n) (n.gaps / pair_words) r ≡ err (numbers e) → LaidMet asked n r x v b l g
+laid_stopped e (std.Ok a) h p = absurd h
+laid_stopped e (std.Err a) h p = record { is = rw h p }
+
+-- the walk's
+pub walk_handed : {asked : Out (Unit {0})} {n : Lent} {r v b l g : List ℕ} {e : MdfError} {x : std.Result Rows MdfError} → IsErrAnd x (λ y. y ≡ e)
+    → WalkMet n r (std.Err e) v b l g → LaidMet asked n r x v b l g
+unfolding layout_if and_then
+walk_handed h m = laid_stopped _ _ h (rw m.is)
 
 -- what an entry asks behind the walk is refused, or granted
-module _ {n : Lent} {r v b l g : List ℕ} {w : Walk} (k : Walks n r w v b l g) where
-  pub asked_refused : {asked : Out (Unit {0})} {e : Refusal} → asked ≡ err e → layout_if asked (limits n) (n.gaps / pair_words) r ≡ err e
+module _ {n : Lent} {r v b l g : List ℕ} {w : Walk} (k : tables.Walks n r w v b l g) where
+  pub asked_handed : {asked : Out (Unit {0})} (e : MdfError) {x : std.Result Rows MdfError} → IsErrAnd x (λ y. y ≡ e) → err (numbers e) ≡ asked → LaidMet asked n r x v b l g
   unfolding layout_if and_then
-  asked_refused h = rw (k.is, h)
+  asked_handed e h p = laid_stopped _ _ h (rw (k.is, ← p))
 
   pub identified : 64 ≤ length r
   identified = whole n r (held w v b l) k.is
 
-pub granted : {asked : Out (Unit {0})} {n : Lent} {r v b l g : List ℕ} {x : Laid} → asked ≡ ok tt → LaidMet (ok tt) n r x v b l g → LaidMet asked n r x v b l g
+pub granted : {asked : Out (Unit {0})} {n : Lent} {r v b l g : List ℕ} {x : std.Result Rows MdfError} → asked ≡ ok tt → LaidMet (ok tt) n r x v b l g → LaidMet asked n r x v b l g
 granted h m = rw h m
 
 -- the walk went through to w, the rows are ordered and the gaps are listed
-module _ {n : Lent} {r v b l g b3 g3 : List ℕ} {w : Walk} {count : ℕ} (k : Walks n r w v b l g)
+module _ {n : Lent} {r v b l g b3 g3 : List ℕ} {w : Walk} {count : ℕ} (k : tables.Walks n r w v b l g)
     (o : Ordered w.blocks b b3) (h : Listed (compute_gaps (length r) 0 (ranges_in block_row_words w.blocks b3)) g g3 count) where
   abbrev rows : List Row
   rows = held_rows w.blocks b

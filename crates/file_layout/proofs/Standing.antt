@@ -1,5 +1,6 @@
 -- What an entry takes from the answer of its first part, and what its next part takes from the layout that stands in the tables.
 -- Assumes nothing.
+use Rattle.std.specs.Prelude.{Ok, Err}
 use mathlib.Core.Path.{◌≡◌, sym, ap, ◌∙◌}
 use mathlib.Core.List.{List, [], ◌∷◌}
 use Prim.Native.Nat.{ℕ, ◌/◌, ◌<◌}
@@ -19,22 +20,21 @@ use Rattle.blocks.specs.declared.error.MdfError.{MdfError}
 use Rattle.tables.specs.Rows.{held_rows, row_at}
 use Rattle.tables.specs.Laid.{Shows, RowOk, Printable}
 use Rattle.tables.proofs.Words.{rows_back, links_back, rows_at}
+use Rattle.file_layout.specs.declared.Rows.{Rows}
 use Rattle.file_layout.specs.Tables.{Stands, LaidMet}
-use Rattle.file_layout.specs.declared.Laid.{Laid}
-use Rattle.file_layout.specs.declared.Laid.TheVariants.{Tables, Refused}
 
 -- the answers of `lay` and `lay_finalized`
-module _ {n : Lent} {r v b l g : List ℕ} {x : Laid} where
-  pub laid_tables : {asked : Out (Unit {0})} {nv nb nl ng : ℕ} → x ≡ Tables nv nb nl ng → LaidMet asked n r x v b l g → Stands asked n r nv nb nl ng v b l g
-  laid_tables e m = let k = rw e at m in k.is
+module _ {n : Lent} {r v b l g : List ℕ} where
+  pub laid_tables : {asked : Out (Unit {0})} {x : Rows} → LaidMet asked n r (Ok x) v b l g → Stands asked n r x.visited x.blocks x.links x.gaps v b l g
+  laid_tables m = m.is
 
-  pub laid_refused : {e : MdfError} → x ≡ Refused e → LaidMet (ok tt) n r x v b l g → laid n r ≡ err (numbers e)
+  pub laid_refused : {e : MdfError} → LaidMet (ok tt) n r (Err e) v b l g → laid n r ≡ err (numbers e)
   unfolding laid layout
-  laid_refused e m = let k = rw e at m in k.is
+  laid_refused m = m.is
 
-  pub finalized_refused : {e : MdfError} → x ≡ Refused e → LaidMet (finalized r) n r x v b l g → laid_finalized n r ≡ err (numbers e)
+  pub finalized_refused : {e : MdfError} → LaidMet (finalized r) n r (Err e) v b l g → laid_finalized n r ≡ err (numbers e)
   unfolding laid_finalized
-  finalized_refused e m = let k = rw e at m in k.is
+  finalized_refused m = m.is
 
 pub finalized_laid : {n : Lent} {r v b l g : List ℕ} {nv nb nl ng : ℕ} (t : Stands (finalized r) n r nv nb nl ng v b l g) → laid_finalized n r ≡ ok t.layout
 unfolding laid_finalized laid layout

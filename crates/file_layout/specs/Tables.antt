@@ -1,16 +1,14 @@
 -- The layout that stands in the lent tables, and the refusals on the way to it.
-use Rattle.std.specs.Prelude.{◌≡◌, List, [], ℕ, ◌*◌, ◌/◌, ◌≤◌, length, replicate}
+use Rattle.std.specs.Prelude.{◌≡◌, List, [], ℕ, ◌*◌, ◌/◌, ◌≤◌, length, replicate, Result, Ok, Err}
 use Rattle.mdf4.specs.Bytes.{concat_map}
 use Rattle.mdf4.specs.Act.{Out, ok, err}
 use Rattle.mdf4.specs.Layout.{Layout, walk_state, layout_if}
 use Rattle.mdf4.specs.Answers.{Lent, limits, block_row_words, pair_words, row_words, link_words, range_words, filled, laid}
 use Rattle.blocks.specs.Errors.{numbers}
-use Rattle.walk_state.specs.Held.{held, Within}
+use Rattle.blocks.specs.declared.error.MdfError.{MdfError}
+use Rattle.walk_state.specs.Within.{held, Within}
 use Rattle.walk_state.specs.declared.Walk.{Walk}
-use Rattle.walk_state.specs.declared.Walked.{Walked}
-use Rattle.walk_state.specs.declared.Walked.TheVariants as walked_variants
-use Rattle.file_layout.specs.declared.Laid.{Laid}
-use Rattle.file_layout.specs.declared.Laid.TheVariants as laid_variants
+use Rattle.file_layout.specs.declared.Rows.{Rows}
 
 -- the lengths lent: of the four tables, of the scratch table and of the output
 abbrev pub lent : List ℕ → List ℕ → List ℕ → List ℕ → ℕ → ℕ → Lent
@@ -43,12 +41,12 @@ pub record Walks (n : Lent) (r : List ℕ) (w : Walk) (v b l g : List ℕ) : Typ
   pub links_long : length l ≡ n.links
   pub gaps_zero : g ≡ replicate n.gaps 0
 
-abbrev pub WalkedTo : Lent → List ℕ → Walked → List ℕ → List ℕ → List ℕ → List ℕ → Type 0
-WalkedTo n r (walked_variants.On w) v b l g = Walks n r w v b l g
-WalkedTo n r (walked_variants.Refused e) v b l g = walk_state (limits n) r ≡ err (numbers e)
+abbrev pub WalkedTo : Lent → List ℕ → Result Walk MdfError → List ℕ → List ℕ → List ℕ → List ℕ → Type 0
+WalkedTo n r (Ok w) v b l g = Walks n r w v b l g
+WalkedTo n r (Err e) v b l g = walk_state (limits n) r ≡ err (numbers e)
 
 -- the walk answers x: its state stands in the tables; or the definition's refusal, and the tables are left free
-pub record WalkMet (n : Lent) (r : List ℕ) (x : Walked) (v b l g : List ℕ) : Type 0 where
+pub record WalkMet (n : Lent) (r : List ℕ) (x : Result Walk MdfError) (v b l g : List ℕ) : Type 0 where
   pub is : WalkedTo n r x v b l g
 
 -- the recording r has a layout, it stands in the tables, and what the entry asked besides was granted
@@ -62,11 +60,11 @@ pub record Stands (asked : Out (Unit {0})) (n : Lent) (r : List ℕ) (nv nb nl n
   pub links_fit : nl * pair_words ≤ length l
   pub gaps_fit : ng * pair_words ≤ length g
 
-abbrev pub Lays : Out (Unit {0}) → Lent → List ℕ → Laid → List ℕ → List ℕ → List ℕ → List ℕ → Type 0
-Lays asked n r (laid_variants.Tables nv nb nl ng) v b l g = Stands asked n r nv nb nl ng v b l g
-Lays asked n r (laid_variants.Refused e) v b l g = layout_if asked (limits n) (n.gaps / pair_words) r ≡ err (numbers e)
+abbrev pub Lays : Out (Unit {0}) → Lent → List ℕ → Result Rows MdfError → List ℕ → List ℕ → List ℕ → List ℕ → Type 0
+Lays asked n r (Ok x) v b l g = Stands asked n r x.visited x.blocks x.links x.gaps v b l g
+Lays asked n r (Err e) v b l g = layout_if asked (limits n) (n.gaps / pair_words) r ≡ err (numbers e)
 
 -- the first part of an entry, which asks `asked` between the walk and the gaps, answers x: the layout stands in the tables; or the
 -- definition's refusal, and the tables are left free
-pub record LaidMet (asked : Out (Unit {0})) (n : Lent) (r : List ℕ) (x : Laid) (v b l g : List ℕ) : Type 0 where
+pub record LaidMet (asked : Out (Unit {0})) (n : Lent) (r : List ℕ) (x : Result Rows MdfError) (v b l g : List ℕ) : Type 0 where
   pub is : Lays asked n r x v b l g

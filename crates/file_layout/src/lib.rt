@@ -9,31 +9,29 @@ ghost use Rattle.mdf4.specs.Answers.{Lent, block_row_words};
 ghost use Rattle.file_layout.specs.Tables.{lent, Zeroed, Walks, WalkMet, LaidMet};
 
 use blocks::error::MdfError;
-use finalized::{Finalized, check_finalized};
-use tables::{PAIR_WORDS, list_gaps, order_blocks, zero_words};
-use walk_state::{Walk, Walked};
+use finalized::check_finalized;
+use tables::{PAIR_WORDS, list_gaps, order_blocks};
+use walk_state::{Walk, Walker};
 use walker::header::walk;
 
-// The rows of each table behind the walk, with the blocks in order and the gaps listed, or a refusal.
-#[derive(Drop)]
-pub enum Laid {
-    Tables {
-        visited: usize,
-        blocks: usize,
-        links: usize,
-        gaps: usize,
-    },
-    Refused(MdfError),
+// The rows in use of each table behind the walk, with the blocks in order and the gaps listed.
+#[derive(Clone, Copy, Debug, PartialEq, Eq)]
+pub struct Rows {
+    pub visited: usize,
+    pub blocks: usize,
+    pub links: usize,
+    pub gaps: usize,
 }
 
-// All words of the four tables are 0.
+// All words of the four tables are 0. The tables stay apart, here and below: the C interface lends them one by one, and an entry's
+// later steps take some of them and not the others.
 pub fn zero_tables(visited: &mut [u64], blocks: &mut [u64], links: &mut [u64], gaps: &mut [u64])
     ensures { Zeroed visited.old blocks.old links.old gaps.old visited.new blocks.new links.new gaps.new }
 {
-    zero_words(visited);
-    zero_words(blocks);
-    zero_words(links);
-    zero_words(gaps);
+    visited.fill(0);
+    blocks.fill(0);
+    links.fill(0);
+    gaps.fill(0);
 }
 
 // The first step of every entry: the tables zeroed, then the walk. A refusal leaves the tables free.
@@ -43,24 +41,25 @@ pub fn walk_file(
     blocks: &mut [u64],
     links: &mut [u64],
     gaps: &mut [u64],
-) -> Walked
+) -> Result<Walk, MdfError>
     ensures { (scratch out : ℕ) → WalkMet (lent visited.old blocks.old links.old gaps.old scratch out) «data».now result visited.new blocks.new links.new gaps.new }
 {
     zero_tables(visited, blocks, links, gaps);
-    let start = Walk {
-        visited: 0,
-        blocks: 0,
-        links: 0,
-        dg: 0,
-        cg: 0,
-        cn: 0,
+    // Made here: of a function that took three `&mut` of one lifetime the check would not know which ends as which.
+    let mut walker = Walker {
+        file: data,
+        visited,
+        blocks,
+        links,
+        walk: Walk::default(),
     };
-    walk(data, visited, blocks, links, start)
+    walk(&mut walker)?;
+    Ok(walker.walk)
 }
 
 // The next one, behind what an entry asks besides: the blocks by offset and the gaps between them, in a file of len bytes. A refusal
 // leaves the tables free.
-pub fn lay_gaps(len: u64, blocks: &mut [u64], gaps: &mut [u64], w: Walk) -> Laid
+pub fn lay_gaps(len: u64, blocks: &mut [u64], gaps: &mut [u64], w: Walk) -> Result<Rows, MdfError>
     requires { w.blocks * block_row_words ≤ length blocks.old }
     ensures { (n : Lent) (file v l : List ℕ) → len ≡ length file → Walks n file w v blocks.old l gaps.old → LaidMet (ok tt) n file result v blocks.new l gaps.new }
 {
@@ -68,17 +67,17 @@ pub fn lay_gaps(len: u64, blocks: &mut [u64], gaps: &mut [u64], w: Walk) -> Laid
     let count = list_gaps(blocks, w.blocks, len, gaps);
     let rows = gaps.len() / PAIR_WORDS;
     if rows < count {
-        return Laid::Refused(MdfError::TableTooShort {
+        return Err(MdfError::TableTooShort {
             lent: rows as u64,
             needed: count as u64,
         });
     }
-    Laid::Tables {
+    Ok(Rows {
         visited: w.visited,
         blocks: w.blocks,
         links: w.links,
         gaps: count,
-    }
+    })
 }
 
 // What layout, listing and tree begin with: they ask nothing besides.
@@ -88,14 +87,11 @@ pub fn lay(
     blocks: &mut [u64],
     links: &mut [u64],
     gaps: &mut [u64],
-) -> Laid
+) -> Result<Rows, MdfError>
     ensures { (scratch out : ℕ) → LaidMet (ok tt) (lent visited.old blocks.old links.old gaps.old scratch out) «data».now result visited.new blocks.new links.new gaps.new }
 {
-    let r = walk_file(data, visited, blocks, links, gaps);
-    match r {
-        Walked::Refused(e) => Laid::Refused(e),
-        Walked::On(w) => lay_gaps(data.len() as u64, blocks, gaps, w),
-    }
+    let w = walk_file(data, visited, blocks, links, gaps)?;
+    lay_gaps(data.len() as u64, blocks, gaps, w)
 }
 
 // What the clear list begins with: the recording must be finalised (document 02, order 4).
@@ -105,18 +101,10 @@ pub fn lay_finalized(
     blocks: &mut [u64],
     links: &mut [u64],
     gaps: &mut [u64],
-) -> Laid
+) -> Result<Rows, MdfError>
     ensures { (scratch out : ℕ) → LaidMet (finalized «data».now) (lent visited.old blocks.old links.old gaps.old scratch out) «data».now result visited.new blocks.new links.new gaps.new }
 {
-    let r = walk_file(data, visited, blocks, links, gaps);
-    match r {
-        Walked::Refused(e) => Laid::Refused(e),
-        Walked::On(w) => {
-            let flags = check_finalized(data);
-            match flags {
-                Finalized::Refused(e) => Laid::Refused(e),
-                Finalized::Yes => lay_gaps(data.len() as u64, blocks, gaps, w),
-            }
-        }
-    }
+    let w = walk_file(data, visited, blocks, links, gaps)?;
+    check_finalized(data)?;
+    lay_gaps(data.len() as u64, blocks, gaps, w)
 }

@@ -1,206 +1,146 @@
 -- Data regions: a list that is not entered, and one that is entered, link by link. Assumes nothing.
-use mathlib.Core.Path.{◌≡◌, refl, sym, ap, ◌∙◌}
-use mathlib.Core.Bool.{Bool, true, false}
-use mathlib.Core.List.{List, [], map}
-use Prim.Native.Nat.{ℕ, zero, suc, ◌+◌, ◌*◌, ◌-◌, ◌≤◌, ◌<◌}
-use native.Mathlib.Omega.{arith}
-use native.Mathlib.Nat.{not-suc-le-zero}
-use native.Mathlib.Numerals.{add-one}
-use lib.ListN.{length, get_or, drop, length-map, drop_of_length-le, get_or-map}
-use lib.Seq.{drop-cons}
+use Rattle.std.specs.Prelude as std
+use Rattle.std.proofs.Common.{◌≡◌, refl, sym, ◌∙◌, Bool, true, false, List, [], ℕ, zero, suc, ◌+◌, ◌*◌, ◌-◌, ◌≤◌, ◌<◌, length, get_or, drop}
+use Rattle.std.proofs.Common.{add-one, drop-cons, arith}
+use lib.ListN.{length-map, drop_of_length-le, get_or-map}
 use Rattle.mdf4.specs.Bytes.{little, num, words}
-use Rattle.mdf4.specs.Act.{Refusal, refusal, Result, Stop, Out, ok, err, and_then, DL, Link, State, Act, elem, seen, choose, pure, stop, ◌>>=◌, ◌>>◌, visit, once, each, reason}
+use Rattle.mdf4.specs.Act.{refusal, Result, Stop, ok, err, and_then, DL, Link, State, Act, elem, seen, choose, pure, stop, ◌>>=◌, ◌>>◌, visit, once}
+use Rattle.mdf4.specs.Act.{each}
 use Rattle.mdf4.specs.Kinds.{shape, RecordLayout, no_records, make_link, null, leads_to}
 use Rattle.mdf4.specs.Walk.{Block, link_of, enter, walk_data_block, walk_data_list, max_lists, list_too_deep, walk_data_region}
-use Rattle.mdf4.proofs.Results.{never}
-use Rattle.blocks.specs.Errors.{numbers}
 use Rattle.blocks.specs.declared.error.MdfError.{MdfError}
-use Rattle.walk_state.specs.declared.Walk.{Walk}
-use Rattle.walk_state.specs.declared.Walked.{Walked}
-use Rattle.walk_state.specs.declared.Walked.TheVariants.{On, Refused as Stopped}
-use Rattle.walk_state.specs.Held.{held, said, Later, Met}
-use Rattle.walk_state.proofs.Steps.{on, off}
-use Rattle.walk_blocks.specs.Regions.{open_list, enter_list, links_from, data_list, Open, Opens, Deep, handed_up}
-use Rattle.walk_blocks.specs.declared.regions.Entered.{Entered}
-use Rattle.walk_blocks.specs.declared.regions.Entered.TheVariants.{Seen, List as DataList, Refused}
-use Rattle.walk_blocks.proofs.Entering.{then_on, then_off}
-use Rattle.walk_blocks.proofs.DataBlocks.{block_none}
+use Rattle.walk_state.specs.declared.Walker.{Walker}
+use Rattle.walk_state.specs.Held.{holds, Keeps, Does, Walks}
+use Rattle.walk_state.proofs.Steps.{keeps_same, keeps_then, then, next, halt, halt_next, done, alike}
+use Rattle.walk_blocks.specs.Regions.{open_list, enter_list, data_list, links_at, listed}
 use Rattle.walk_blocks.proofs.DataLists.{words_length, words_at}
 
 -- a region by the mark found
-module _ (h : RecordLayout) (l : Link) (r : List ℕ) (s : State) where
-  pub region_list : (d : ℕ) → leads_to (shape DL).mark l ≡ true → walk_data_region d h l r s ≡ data_list d h l.target r s
-  unfolding walk_data_region data_list choose
-  region_list zero e = rw e
-  region_list (suc d) e = rw e
+region_list_is : (h : RecordLayout) (l : Link) (r : List ℕ) (s : State) (d : ℕ) → leads_to (shape DL).mark l ≡ true
+    → walk_data_region d h l r s ≡ data_list d h l.target r s
+unfolding walk_data_region data_list choose
+region_list_is h l r s zero e = rw e
+region_list_is h l r s (suc d) e = rw e
 
-  pub region_block : (d : ℕ) → leads_to (shape DL).mark l ≡ false → walk_data_region d h l r s ≡ walk_data_block h l r s
-  unfolding walk_data_region choose
-  region_block zero e = rw e
-  region_block (suc d) e = rw e
+region_block_is : (h : RecordLayout) (l : Link) (r : List ℕ) (s : State) (d : ℕ) → leads_to (shape DL).mark l ≡ false
+    → walk_data_region d h l r s ≡ walk_data_block h l r s
+unfolding walk_data_region choose
+region_block_is h l r s zero e = rw e
+region_block_is h l r s (suc d) e = rw e
+
+module _ (d : ℕ) (h : RecordLayout) (l : Link) {w w1 : Walker} {r : std.Result (Unit {0}) MdfError} where
+  pub region_list : leads_to (shape DL).mark l ≡ true → Walks w r w1 (data_list d h l.target) → Walks w r w1 (walk_data_region d h l)
+  region_list e p = alike (sym (region_list_is h l w.file.now (holds w) d e)) p
+
+  pub region_block : leads_to (shape DL).mark l ≡ false → Walks w r w1 (walk_data_block h l) → Walks w r w1 (walk_data_region d h l)
+  region_block e p = alike (sym (region_block_is h l w.file.now (holds w) d e)) p
 
 -- the links ls of a list: the data links first, then next
-abbrev in_order : (Link → Act (Unit {0})) → List Link → Act (Unit {0})
+abbrev pub in_order : (Link → Act (Unit {0})) → List Link → Act (Unit {0})
 in_order f ls = each f (drop 1 ls) >> f (get_or ls 0 null)
 
 -- where there is no link there is nothing to walk
-none_left : (d : ℕ) (h : RecordLayout) (r : List ℕ) (s : State) → said (in_order (walk_data_region d h) [] r s) ≡ ok s
-unfolding each pure ◌>>◌ and_then leads_to shape little
-none_left d h r s = ap said (region_block h null r s d refl) ∙ block_none h null r s refl
+none_left : (d : ℕ) (h : RecordLayout) (r : List ℕ) (s : State) → in_order (walk_data_region d h) [] r s ≡ ok (tt, s)
+unfolding each pure ◌>>◌ and_then leads_to shape little walk_data_block choose
+none_left d h r s = region_block_is h null r s d refl
 
--- a list that is listed, and what is done with its links
-module _ (f : List Link → Act (Unit {0})) (r : List ℕ) (k : State → Result Stop (Block × State)) where
-  abbrev opens : Result Stop (Unit {0} × State) → Out (List Link × State)
-  opens z = reason {A = List Link × State} (and_then z (λ p. and_then (k p.1) (λ q. ok (q.0.1, q.1))))
+none_walks : (d : ℕ) (h : RecordLayout) {w : Walker} → Walks w (std.Ok tt) w (in_order (walk_data_region d h) [])
+none_walks d h {w} = alike {m = pure tt} (unfold pure in sym (none_left d h w.file.now (holds w))) (done refl)
 
-  abbrev walks : Result Stop (Unit {0} × State) → Out State
-  walks z = said (and_then z (λ p. and_then (k p.1) (λ q. f q.0.1 r q.1)))
+-- a list is entered, and its links are walked in order
+list_is : (d : ℕ) (h : RecordLayout) (a : ℕ) (r : List ℕ) (s : State)
+    → (enter_list d a >>= in_order (walk_data_region (d - 1) h)) r s ≡ data_list d h a r s
+unfolding enter_list data_list list_too_deep walk_data_list open_list link_of seen once choose pure stop ◌>>=◌ ◌>>◌ and_then
+list_is zero h a r s = by_place (elem a s.visited)
+  where
+    by_place : (b : Bool) → and_then (choose b (pure []) (stop DL a (refusal 15 a max_lists 0)) r s) (λ p. in_order (walk_data_region 0 h) p.0 r p.1)
+        ≡ choose b (pure (tt {0})) (stop DL a (refusal 15 a max_lists 0)) r s
+    by_place true = none_left 0 h r s
+    by_place false = refl
+list_is (suc d) h a r s = rw (add-sub d) (by_place (elem a s.visited))
+  where
+    f : Link → Act (Unit {0})
+    f = walk_data_region d h
 
-  behind_on : (z : Result Stop (Unit {0} × State)) (ls : List Link) (s : State) → opens z ≡ ok (ls, s) → walks z ≡ said (f ls r s)
-  unfolding and_then reason
-  behind_on (err x) ls s e = never (sym e)
-  behind_on (ok p) ls s e = go (k p.1) e
-    where
-      go : (y : Result Stop (Block × State)) → reason {A = List Link × State} (and_then y (λ q. ok (q.0.1, q.1))) ≡ ok (ls, s)
-          → said (and_then y (λ q. f q.0.1 r q.1)) ≡ said (f ls r s)
-      go (err x) e = never (sym e)
-      go (ok q) e = let z : ◌≡◌ {A = List Link × State} (q.0.1, q.1) (ls, s) = cc in ap (λ (t : List Link × State). said (f t.0 r t.1)) z
+    add-sub : (n : ℕ) → suc n - 1 ≡ n
+    add-sub n = omega arith
 
-  behind_off : (z : Result Stop (Unit {0} × State)) (e : Refusal) → opens z ≡ err e → walks z ≡ err e
-  unfolding and_then reason
-  behind_off (err x) e q = let z : x.why ≡ e = cc in rw z
-  behind_off (ok p) e q = go (k p.1) q
-    where
-      go : (y : Result Stop (Block × State)) → reason {A = List Link × State} (and_then y (λ q. ok (q.0.1, q.1))) ≡ err e
-          → said (and_then y (λ q. f q.0.1 r q.1)) ≡ err e
-      go (err x) q = let z : x.why ≡ e = cc in rw z
-      go (ok y) q = never q
+    by_block : (z : Result Stop (Block × State))
+        → and_then (and_then {B = List Link × State} z (λ p. ok (p.0.1, p.1))) (λ p. in_order f p.0 r p.1) ≡ and_then z (λ p. in_order f p.0.1 r p.1)
+    by_block (ok p) = refl
+    by_block (err e) = refl
+
+    by_visit : (z : Result Stop (Unit {0} × State)) → and_then (and_then z (λ p. open_list a r p.1)) (λ p. in_order f p.0 r p.1)
+        ≡ and_then z (λ q. and_then (enter DL a (no_records 0) r q.1) (λ p. in_order f p.0.1 r p.1))
+    by_visit (ok q) = by_block (enter DL a (no_records 0) r q.1)
+    by_visit (err e) = refl
+
+    by_place : (b : Bool) → and_then (choose b (pure []) (visit DL a >> open_list a) r s) (λ p. in_order f p.0 r p.1)
+        ≡ choose b (pure (tt {0})) (visit DL a >> (enter DL a (no_records 0) >>= λ b. in_order f b.1)) r s
+    by_place true = none_left d h r s
+    by_place false = by_visit (visit DL a r s)
 
 -- a list, told by what `enter_list` ensures
-module _ (h : RecordLayout) (a : ℕ) (r : List ℕ) (s : State) where
-  list_off : (d : ℕ) (e : Refusal) → reason (enter_list d a r s) ≡ err e → said (data_list d h a r s) ≡ err e
-  unfolding enter_list data_list list_too_deep walk_data_list open_list link_of seen once choose pure stop ◌>>=◌ ◌>>◌ reason
-  list_off zero e q = go (elem a s.visited) q
-    where
-      go : (b : Bool) → reason {A = List Link × State} (choose b (pure []) (stop DL a (refusal 15 a max_lists 0)) r s) ≡ err e
-          → said (choose b (pure (tt {0})) (stop DL a (refusal 15 a max_lists 0)) r s) ≡ err e
-      go true q = never q
-      go false q = let z : refusal 15 a max_lists 0 ≡ e = cc in rw z
-  list_off (suc d) e q = go (elem a s.visited) q
-    where
-      go : (b : Bool) → reason (choose b (pure []) (visit DL a >> open_list a) r s) ≡ err e
-          → said (choose b (pure tt) (visit DL a >> (enter DL a (no_records 0) >>= λ b. in_order (walk_data_region d h) b.1)) r s) ≡ err e
-      go true q = never q
-      go false q = behind_off (in_order (walk_data_region d h)) r (enter DL a (no_records 0) r) (visit DL a r s) e q
+module _ (d : ℕ) (h : RecordLayout) (a : ℕ) {w w1 : Walker} where
+  pub list_off : {e : MdfError} → Does (listed w.file.now a) w (std.Err e) w1 (enter_list d a) → Walks w (std.Err e) w1 (data_list d h a)
+  list_off p = alike (list_is d h a w.file.now (holds w)) (halt _ p)
 
-  list_on : (d : ℕ) (ls : List Link) (s' : State) → reason (enter_list (suc d) a r s) ≡ ok (ls, s')
-      → said (data_list (suc d) h a r s) ≡ said (in_order (walk_data_region d h) ls r s')
-  unfolding enter_list data_list walk_data_list open_list link_of once choose pure ◌>>=◌ ◌>>◌ reason
-  list_on d ls s' q = go (elem a s.visited) q
-    where
-      go : (b : Bool) → reason (choose b (pure []) (visit DL a >> open_list a) r s) ≡ ok (ls, s')
-          → said (choose b (pure tt) (visit DL a >> (enter DL a (no_records 0) >>= λ b. in_order (walk_data_region d h) b.1)) r s)
-          ≡ said (in_order (walk_data_region d h) ls r s')
-      go true q = let z : ◌≡◌ {A = List Link × State} ([], s) (ls, s') = cc in
-          sym (none_left d h r s) ∙ ap (λ (t : List Link × State). said (in_order (walk_data_region d h) t.0 r t.1)) z
-      go false q = behind_on (in_order (walk_data_region d h)) r (enter DL a (no_records 0) r) (visit DL a r s) ls s' q
+  pub list_seen : Does (listed w.file.now a) w (std.Ok std.None) w1 (enter_list d a) → Walks w (std.Ok tt) w1 (data_list d h a)
+  list_seen p = alike (list_is d h a w.file.now (holds w)) (then _ p (none_walks (d - 1) h))
 
-  list_seen : (d : ℕ) (s' : State) → reason (enter_list d a r s) ≡ ok ([], s') → said (data_list d h a r s) ≡ ok s'
-  unfolding enter_list data_list list_too_deep seen choose pure stop reason
-  list_seen zero s' q = go (elem a s.visited) q
-    where
-      go : (b : Bool) → reason {A = List Link × State} (choose b (pure []) (stop DL a (refusal 15 a max_lists 0)) r s) ≡ ok ([], s')
-          → said (choose b (pure (tt {0})) (stop DL a (refusal 15 a max_lists 0)) r s) ≡ ok s'
-      go true q = let z : ◌≡◌ {A = List Link × State} ([], s) ([], s') = cc in ap (λ (t : List Link × State). ok t.1) z
-      go false q = never (sym q)
-  list_seen (suc d) s' q = list_on d [] s' q ∙ none_left d h r s'
-
--- a list that is not entered
-pub list_left : (d : ℕ) (h : RecordLayout) (a : ℕ) (r : List ℕ) (s : State) (w : Walk) (x : Entered) (y : Walked) (v b l : List ℕ)
-    → ((w' : Walk) (n : ℕ) → x ≡ DataList w' n → ⊥) → y ≡ handed_up x → Opens w x r a v b l (reason (enter_list d a r s)) → Met w y v b l (said (data_list d h a r s))
-list_left d h a r s w (Seen w') y v b l t e m = rw e (record { says = sym (list_seen h a r s d _ (sym m.says)); after = m.after })
-list_left d h a r s w (Refused x) y v b l t e m = rw e (record { says = sym (list_off h a r s d _ (sym m.says)); after = tt })
-list_left d h a r s w (DataList w' n) y v b l t e m = absurd (t w' n refl)
-
--- the links of the list at a, which has n
-abbrev links_at : List ℕ → ℕ → ℕ → List Link
-links_at r a n = map (make_link r) (words r (a + 24) n)
+  pub list_on : {n : ℕ} {w2 : Walker} {r : std.Result (Unit {0}) MdfError} → Does (listed w.file.now a) w (std.Ok (std.Some n)) w1 (enter_list d a)
+      → Walks w1 r w2 (in_order (walk_data_region (d - 1) h) (links_at w1.file.now a n)) → Walks w r w2 (data_list d h a)
+  list_on p q = alike (list_is d h a w.file.now (holds w)) (then _ p (rw (← p.keeps.file) q))
 
 links_length : (r : List ℕ) (a n : ℕ) → length (links_at r a n) ≡ n
 links_length r a n = length-map (words r (a + 24) n) (make_link r) ∙ words_length r (a + 24) n
 
-link_is : (r : List ℕ) (a n i t f : ℕ) → i < n → t ≡ num r (a + 24 + 8 * i) 8 → f ≡ (make_link r t).found
-    → get_or (links_at r a n) i null ≡ record { target = t; found = f }
+link_is : (r : List ℕ) (a n i t : ℕ) → i < n → t ≡ num r (a + 24 + 8 * i) 8 → get_or (links_at r a n) i null ≡ make_link r t
 unfolding make_link
-link_is r a n i t f h p q =
+link_is r a n i t h p =
     let e : get_or (words r (a + 24) n) i 0 ≡ t = words_at r (a + 24) n i h ∙ sym p in
-    get_or-map (make_link r) (words r (a + 24) n) i 0 ∙ rw (e, q)
+    get_or-map (make_link r) (words r (a + 24) n) i 0 ∙ rw e
 
--- a list that is entered: what it comes to, told by the walk of its data links
-pub record Into (d : ℕ) (h : RecordLayout) (a : ℕ) (r : List ℕ) (s : State) (w w' : Walk) (n : ℕ) (v b l : List ℕ) : Type 0 where
-  pub there : Open w w' r a n v b l
-  pub deep : 1 ≤ d
-  pub links_off : (e : Refusal) → said (links_from (d - 1) h a n 1 r (held w' v b l)) ≡ err e → said (data_list d h a r s) ≡ err e
-  pub links_on : (s' : State) (t f : ℕ) → said (links_from (d - 1) h a n 1 r (held w' v b l)) ≡ ok s' → t ≡ num r (a + 24 + 8 * 0) 8 → f ≡ (make_link r t).found
-      → said (data_list d h a r s) ≡ said (walk_data_region (d - 1) h (record { target = t; found = f }) r s')
+-- a loop over the links of the list at a, which has n, from w0 to w: what is left behind place i is what is left of the whole
+pub record Turning (d : ℕ) (h : RecordLayout) (a n : ℕ) (w0 w : Walker) (i : ℕ) : Type 0 where
+  pub keeps : Keeps w0 w
+  pub rest : {r : std.Result (Unit {0}) MdfError} {w2 : Walker} → Walks w r w2 (each (walk_data_region d h) (drop i (links_at w0.file.now a n)))
+      → Walks w0 r w2 (each (walk_data_region d h) (drop 1 (links_at w0.file.now a n)))
 
-pub list_into : (d : ℕ) (h : RecordLayout) (a : ℕ) (r : List ℕ) (s : State) (w w' : Walk) (n : ℕ) (x : Entered) (v b l : List ℕ)
-    → x ≡ DataList w' n → Opens w x r a v b l (reason (enter_list d a r s)) → Deep x d → Into d h a r s w w' n v b l
-unfolding links_from
-list_into zero h a r s w w' n x v b l e m p = absurd (not-suc-le-zero (p.list w' n e))
-list_into (suc d) h a r s w w' n x v b l e m y =
-    let z : suc d - 1 ≡ d = omega arith in
-    let o = rw e at m in
-    let f = walk_data_region d h in
-    let ls = links_at r a n in
-    let p = list_on h a r s d _ _ (sym o.says) in
-    record {
-      there = o.after;
-      deep = y.list w' n e;
-      links_off = rw z (λ x q. p ∙ then_off (each f (drop 1 ls)) (f (get_or ls 0 null)) r (held w' v b l) x q);
-      links_on = rw z (λ s' t g q i k. p ∙ ap said (then_on (each f (drop 1 ls)) (f (get_or ls 0 null)) r (held w' v b l) s' q) ∙ ap (λ (x : Link). said (f x r s')) (link_is r a n 0 t g o.after.some i k));
-    }
+pub turn_none : {d : ℕ} {h : RecordLayout} {a n : ℕ} {w : Walker} → Turning d h a n w w 1
+turn_none = record { keeps = keeps_same; rest = λ p. p }
 
--- the link at place i, then those behind it
-module _ (f : Link → Act (Unit {0})) (ls : List Link) (i : ℕ) (r : List ℕ) (s : State) where
-  each_on : (s' : State) → i < length ls → said (f (get_or ls i null) r s) ≡ ok s' → each f (drop i ls) r s ≡ each f (drop (i + 1) ls) r s'
-  unfolding each
-  each_on s' h e = rw (add-one, drop-cons ls i null h) (then_on (f (get_or ls i null)) (each f (drop (suc i) ls)) r s s' e)
+each_next : (f : Link → Act (Unit {0})) (ls : List Link) (i : ℕ) → i < length ls
+    → each f (drop i ls) ≡ f (get_or ls i null) >> each f (drop (i + 1) ls)
+unfolding each
+each_next f ls i h = rw (add-one, drop-cons ls i null h)
 
-  each_off : (e : Refusal) → i < length ls → said (f (get_or ls i null) r s) ≡ err e → said (each f (drop i ls) r s) ≡ err e
-  unfolding each
-  each_off e h q = rw (drop-cons ls i null h) (then_off (f (get_or ls i null)) (each f (drop (suc i) ls)) r s e q)
+each_end : (f : Link → Act (Unit {0})) (ls : List Link) (i : ℕ) → length ls ≤ i → each f (drop i ls) ≡ pure tt
+unfolding each
+each_end f ls i h = rw (drop_of_length-le ls h)
 
-  each_end : length ls ≤ i → said (each f (drop i ls) r s) ≡ ok s
-  unfolding each pure
-  each_end h = rw (drop_of_length-le ls h)
+-- the link x that was made of the target at place i
+link_there : (a n : ℕ) {w0 w : Walker} → Keeps w0 w → (i t : ℕ) → i < n → t ≡ num w.file.now (a + 24 + 8 * i) 8 → (x : Link)
+    → x ≡ make_link w.file.now t → get_or (links_at w0.file.now a n) i null ≡ x
+link_there a n {w = w} k i t lt p x q = rw (← k.file) (link_is w.file.now a n i t lt p ∙ sym q)
 
--- a loop over the links: from w to w', with the places before i walked, what is left comes to o
-pub record Turning (d : ℕ) (h : RecordLayout) (a n : ℕ) (r : List ℕ) (o : Out State) (w w' : Walk) (v b l : List ℕ) (i : ℕ) : Type 0 where
-  pub later : Later w w' v b l
-  pub left : o ≡ said (links_from d h a n i r (held w' v b l))
+module _ {d : ℕ} {h : RecordLayout} {a n : ℕ} {w0 w : Walker} {i : ℕ} (m : Turning d h a n w0 w i) where
+  module _ (lt : i < n) (t : ℕ) (p : t ≡ num w.file.now (a + 24 + 8 * i) 8) (x : Link) (q : x ≡ make_link w.file.now t) where
+    split : each (walk_data_region d h) (drop i (links_at w0.file.now a n))
+        ≡ walk_data_region d h x >> each (walk_data_region d h) (drop (i + 1) (links_at w0.file.now a n))
+    split = rw (← link_there a n m.keeps i t lt p x q) (each_next (walk_data_region d h) (links_at w0.file.now a n) i (rw links_length lt))
 
-module _ (d : ℕ) (h : RecordLayout) (a n : ℕ) (r : List ℕ) (o : Out State) (w w' : Walk) (v b l : List ℕ) (i : ℕ) (m : Turning d h a n r o w w' v b l i) where
-  module _ (t f : ℕ) (x : Walked) (v' b' l' : List ℕ) (lt : i < n) (p : t ≡ num r (a + 24 + 8 * i) 8) (q : f ≡ (make_link r t).found)
-      (met : Met w' x v' b' l' (said (walk_data_region d h (record { target = t; found = f }) r (held w' v b l)))) where
-    -- the region that was walked is that of the link at place i
-    met_there : Met w' x v' b' l' (said (walk_data_region d h (get_or (links_at r a n) i null) r (held w' v b l)))
-    met_there = rw (link_is r a n i t f lt p q) met
+    pub turn_on : {w1 : Walker} → Walks w (std.Ok tt) w1 (walk_data_region d h x) → Turning d h a n w0 w1 (i + 1)
+    turn_on s = record { keeps = keeps_then m.keeps s.keeps; rest = λ r. m.rest (rw split (next s r)) }
 
-    pub turn_on : (w'' : Walk) → x ≡ On w'' → Turning d h a n r o w w'' v' b' l' (i + 1)
-    unfolding links_from
-    turn_on w'' e =
-        let y = on e met_there in
-        record {
-          later = record { within = y.within; grew = omega (arith, y.grew, m.later.grew) };
-          left = m.left ∙ ap said (each_on (walk_data_region d h) (links_at r a n) i r (held w' v b l) _ (rw (links_length r a n) lt) y.says);
-        }
+    pub turn_off : {w1 : Walker} {e : MdfError} → Walks w (std.Err e) w1 (walk_data_region d h x)
+        → Walks w0 (std.Err e) w1 (in_order (walk_data_region d h) (links_at w0.file.now a n))
+    turn_off s = halt_next _ (m.rest (rw split (halt_next _ s)))
 
-    pub turn_off : (e : MdfError) → x ≡ Stopped e → o ≡ err (numbers e)
-    unfolding links_from
-    turn_off e y =
-        m.left ∙ each_off (walk_data_region d h) (links_at r a n) i r (held w' v b l) (numbers e) (rw (links_length r a n) lt) (off y met_there)
-
-  pub turn_end : n ≤ i → o ≡ ok (held w' v b l)
-  unfolding links_from
-  turn_end le = m.left ∙ each_end (walk_data_region d h) (links_at r a n) i r (held w' v b l) (rw (links_length r a n) le)
+  -- then the first one
+  pub turn_last : n ≤ i → 1 ≤ n → (t : ℕ) → t ≡ num w.file.now (a + 24 + 8 * 0) 8 → (x : Link) → x ≡ make_link w.file.now t
+      → {r : std.Result (Unit {0}) MdfError} {w1 : Walker} → Walks w r w1 (walk_data_region d h x)
+      → Walks w0 r w1 (in_order (walk_data_region d h) (links_at w0.file.now a n))
+  turn_last l o t p x q s =
+      next {w1 = w} (m.rest (rw (each_end (walk_data_region d h) (links_at w0.file.now a n) i (rw links_length l)) (done refl)))
+      (rw (link_there a n m.keeps 0 t o p x q) s)

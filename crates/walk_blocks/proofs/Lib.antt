@@ -1,8 +1,7 @@
--- Laws that the proofs of the walk's functions cite.
+-- Laws that the proofs of these functions, and of the walk above them, cite.
 pub mod Entering
 pub mod Reading
 pub mod Walking
-pub mod Calls
 pub mod DataBlocks
 pub mod DataLists
 pub mod DataRegions

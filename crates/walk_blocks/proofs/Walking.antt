@@ -1,65 +1,80 @@
 -- What the walks of texts, sources and conversions answer, step by step. Assumes nothing.
-use mathlib.Core.Path.{◌≡◌, refl, sym, ap, ◌∙◌}
-use mathlib.Core.Bool.{true, false}
-use mathlib.Core.List.{List, [], ◌∷◌, ◌++◌, map}
-use Prim.Native.Nat.{ℕ, ◌+◌, ◌^◌, ◌≤◌, ◌<◌, min}
-use native.Mathlib.Omega.{arith}
-use lib.Dec.{leb, ltb, eqb}
-use lib.ListN.{length, get_or, take, length-append}
+use Rattle.std.specs.Prelude as std
+use Rattle.std.proofs.Common.{◌≡◌, refl, sym, ap, ◌∙◌, Bool, true, false, List, [], ◌∷◌, ◌++◌, map, ℕ, ◌+◌, ◌^◌, ◌≤◌, ◌<◌, min, eqb, leb, ltb, length}
+use Rattle.std.proofs.Common.{get_or, take, length-append, arith}
 use lib.Seq.{length-take-le}
-use borrow.Author.Tests.{lt-ltb, le-ltb, le-leb, lt-leb, eq-eqb, ne_eqb, eqb-true}
+use borrow.Author.Tests.{eqb-true, eq-eqb, ne_eqb, lt-ltb, le-ltb, le-leb, lt-leb}
 use Rattle.mdf4.specs.Bytes.{little, num, bytes, words}
-use Rattle.mdf4.specs.Act.{Refusal, refusal, Out, ok, err, and_then, Kind, SI, UT, State, Act, choose, pure, stop, sized, seen, elem, visit, once, ◌>>=◌}
-use Rattle.mdf4.specs.Kinds.{shape, block_len, links_nr, no_records, read_block, read_of, make_link}
-use Rattle.mdf4.specs.Walk.{after_reading, enter, addr, link_of, enter_text, walk_text_like, walk_conversion}
-use Rattle.mdf4.proofs.Fuel.{once_seen}
+use Rattle.mdf4.specs.Act.{ok, err, refusal, SI, UT, Act, State, pure, stop, choose, sized, once, ◌>>=◌, ◌>>◌, Kind}
+use Rattle.mdf4.specs.Kinds.{shape, links_nr, no_records, read_block, read_of, make_link}
+use Rattle.mdf4.specs.Walk.{enter, addr, link_of, text_kind, enter_text, walk_text_like}
 use Rattle.mdf4.proofs.Results.{check_ok}
+use Rattle.blocks.specs.declared.kind.Kind.TheVariants as code
 use Rattle.blocks.specs.declared.source_block.SourceBlock.{SourceBlock}
+use Rattle.blocks.specs.declared.error.MdfError.{MdfError}
+use Rattle.blocks.specs.declared.error.MdfError.TheVariants.{SumOverflow}
+use Rattle.blocks.specs.Errors.{numbers}
 use Rattle.blocks.specs.Parse.{parsed}
 use Rattle.blocks.specs.SourceBlock.{source_block_of}
 use Rattle.blocks.proofs.Told.{ok_only}
 use Rattle.blocks.proofs.Parse.{parsed_ok}
-use Rattle.walk_state.specs.Held.{said, state_of, Tells}
-use Rattle.walk_blocks.specs.Sources.{walk_texts, enter_source}
-use Rattle.walk_blocks.proofs.Entering.{first_off, second_off, third, bind_off, once_on, once_off, enter_refused}
-use Rattle.walk_blocks.proofs.Reading.{mark_head, plain, simple_si, simple_tells, enter_read, enter_told}
+use Rattle.walk_state.specs.declared.Block.{Block}
+use Rattle.walk_state.specs.declared.Walker.{Walker}
+use Rattle.walk_state.specs.Within.{no_layout}
+use Rattle.walk_state.specs.Held.{Does, holds, mark, Walks, Lists}
+use Rattle.walk_state.proofs.Steps.{yes, no, measured, alike, done, refused, then, dropped, once_halt, once_old, once_new}
+use Rattle.walk_blocks.specs.Blocks.{Found}
+use Rattle.walk_blocks.proofs.Entering.{enter_refused, found_enters}
+use Rattle.walk_blocks.proofs.Reading.{mark_head, simple_si, plain_found}
 
 -- a link that may be null, to a block that is entered once
-module _ (k : Kind) (a : ℕ) (m : Act (Unit {0})) (r : List ℕ) (s : State) where
-  pub link_null : a ≡ 0 → said (choose (eqb a 0) (pure tt) (once k a tt m) r s) ≡ ok s
-  unfolding choose pure
-  link_null h = rw (eq-eqb a 0 h)
+module _ (k : Kind) (a : ℕ) (m : Act (Unit {0})) where
+  pub link_null : {w : Walker} → a ≡ 0 → Walks w (std.Ok tt) w (choose (eqb a 0) (pure tt) (once k a tt m))
+  link_null h = yes _ (eq-eqb a 0 h) (done refl)
 
-  module _ (h : a ≡ 0 → ⊥) where
-    pub link_seen : elem a s.visited ≡ true → said (choose (eqb a 0) (pure tt) (once k a tt m) r s) ≡ ok s
-    unfolding choose
-    link_seen e = rw (ne_eqb a 0 h, once_seen k a tt m r s e)
+  module _ (h : a ≡ 0 → ⊥) {w w1 : Walker} where
+    pub link_halt : {e : MdfError} → Does (λ b. b) w (std.Err e) w1 (mark k a) → Walks w (std.Err e) w1 (choose (eqb a 0) (pure tt) (once k a tt m))
+    link_halt p = no _ (ne_eqb a 0 h) (once_halt k a tt m p)
 
-    module _ (i : elem a s.visited ≡ false) where
-      pub link_off : (e : Refusal) → said (visit k a r s) ≡ err e → said (choose (eqb a 0) (pure tt) (once k a tt m) r s) ≡ err e
-      unfolding choose
-      link_off e q = rw (ne_eqb a 0 h) (once_off k a tt m r s i e q)
+    pub link_old : {b : Bool} → b ≡ false → Does (λ b. b) w (std.Ok b) w1 (mark k a)
+        → Walks w (std.Ok tt) w1 (choose (eqb a 0) (pure tt) (once k a tt m))
+    link_old n p = no _ (ne_eqb a 0 h) (once_old k a tt m n p refl)
 
-      pub link_on : (s' : State) → said (visit k a r s) ≡ ok s' → said (choose (eqb a 0) (pure tt) (once k a tt m) r s) ≡ said (m r s')
-      unfolding choose
-      link_on s' q = rw (ne_eqb a 0 h, once_on k a tt m r s i s' q)
+    pub link_new : {b : Bool} {w2 : Walker} {r : std.Result (Unit {0}) MdfError} → b ≡ true → Does (λ b. b) w (std.Ok b) w1 (mark k a)
+        → Walks w1 r w2 m → Walks w r w2 (choose (eqb a 0) (pure tt) (once k a tt m))
+    link_new n p q = no _ (ne_eqb a 0 h) (once_new k a tt m n p q)
+
+-- the text at a, its kind told by its mark
+enter_text_is : (a : ℕ) (r : List ℕ) (s : State) → (enter (text_kind (bytes r a 24)) a (no_records 0) >> pure tt) r s ≡ enter_text a r s
+unfolding enter_text ◌>>◌ pure
+enter_text_is a r s = refl
 
 -- a text whose offset is marked
-abbrev pub text_body : ℕ → Act (Unit {0})
+abbrev text_body : ℕ → Act (Unit {0})
 text_body a = sized λ n. choose (ltb (a + 24) (2 ^ 64)) (choose (leb (a + 24) n) (enter_text a) (pure tt)) (stop UT a (refusal 7 a a 24))
 
-module _ (a : ℕ) (r : List ℕ) (s : State) where
-  pub text_past : 2 ^ 64 ≤ a + 24 → said (text_body a r s) ≡ err (refusal 7 a a 24)
-  unfolding sized choose stop
-  text_past h = rw (le-ltb (a + 24) (2 ^ 64) h)
+module _ (a : ℕ) {w : Walker} where
+  pub text_past : 2 ^ 64 ≤ a + 24 → Walks w (std.Err (SumOverflow a a 24)) w (text_body a)
+  text_past h = measured _ (no _ (le-ltb (a + 24) (2 ^ 64) h) (refused UT a))
 
-  pub text_short : a + 24 < 2 ^ 64 → length r < a + 24 → said (text_body a r s) ≡ ok s
-  unfolding sized choose pure
-  text_short h i = rw (lt-ltb (a + 24) (2 ^ 64) h, lt-leb (a + 24) (length r) i)
+  pub text_short : a + 24 < 2 ^ 64 → length w.file.now < a + 24 → Walks w (std.Ok tt) w (text_body a)
+  text_short h i = measured _ (yes _ (lt-ltb (a + 24) (2 ^ 64) h) (no _ (lt-leb (a + 24) (length w.file.now) i) (done refl)))
 
-  pub text_there : a + 24 < 2 ^ 64 → a + 24 ≤ length r → said (text_body a r s) ≡ said (enter_text a r s)
-  unfolding sized choose
-  text_there h i = rw (lt-ltb (a + 24) (2 ^ 64) h, le-leb (a + 24) (length r) i)
+  module _ (h : a + 24 < 2 ^ 64) (i : a + 24 ≤ length w.file.now) where
+    text_there : {w1 : Walker} {r : std.Result (Unit {0}) MdfError}
+        → Walks w r w1 (enter (text_kind (bytes w.file.now a 24)) a (no_records 0) >> pure tt) → Walks w r w1 (text_body a)
+    text_there p =
+        measured _ (yes _ (lt-ltb (a + 24) (2 ^ 64) h)
+        (yes _ (le-leb (a + 24) (length w.file.now) i) (alike (enter_text_is a w.file.now (holds w)) p)))
+
+    pub text_refused : {e : MdfError} → read_block (text_kind (bytes w.file.now a 24)) w.file.now a ≡ err (numbers e)
+        → Walks w (std.Err e) w (text_body a)
+    text_refused {e} p = text_there (dropped {g = λ (u : Unit {0}). u} (std.Err e) (λ u. refl) (enter_refused _ a (no_records 0) p))
+
+    pub text_listed : {w1 : Walker} {x : Block} {r : std.Result (Unit {0}) MdfError}
+        (p : Found (text_kind (bytes w.file.now a 24)) (no_records 0) w.file.now a x [])
+        → Lists (no_records 0) p.own [] x w r w1 → Walks w r w1 (text_body a)
+    text_listed {r} p q = text_there (dropped r (λ u. refl) (found_enters p q))
 
 -- the mark of a kind whose mark is tested
 pub mark_tested : (k : Kind) (r : List ℕ) (a : ℕ) (o : List ℕ) → (shape k).tested ≡ true → read_block k r a ≡ ok o → num r a 4 ≡ (shape k).mark
@@ -70,7 +85,7 @@ mark_tested k r a o t e =
     let e3 : eqb (num (bytes r a 24) 0 4) (shape k).mark ≡ true = rw t at e2 in
     sym (mark_head r a 24 (omega arith)) ∙ eqb-true (num (bytes r a 24) 0 4) (shape k).mark e3
 
-pub si_mark : (r : List ℕ) (a : ℕ) (o : List ℕ) → read_block SI r a ≡ ok o → 0x49532323 ≡ num r a 4
+si_mark : (r : List ℕ) (a : ℕ) (o : List ℕ) → read_block SI r a ≡ ok o → 0x49532323 ≡ num r a 4
 unfolding shape little
 si_mark r a o e = sym (mark_tested SI r a o refl e)
 
@@ -82,86 +97,31 @@ three (x ∷ y ∷ []) e = absurd (omega (arith, e))
 three (x ∷ y ∷ z ∷ []) e = refl
 three (x ∷ y ∷ z ∷ u ∷ us) e = absurd (omega (arith, e))
 
-pub si_targets : (o : List ℕ) → get_or ((shape SI).targets o) 0 0 ∷ get_or ((shape SI).targets o) 1 0 ∷ get_or ((shape SI).targets o) 2 0 ∷ [] ≡ (shape SI).targets o
+si_targets : (o : List ℕ)
+    → get_or ((shape SI).targets o) 0 0 ∷ get_or ((shape SI).targets o) 1 0 ∷ get_or ((shape SI).targets o) 2 0 ∷ [] ≡ (shape SI).targets o
 unfolding shape
 si_targets o =
     let ws : List ℕ = words o 24 (min 3 (links_nr o)) in
     three (take 3 (ws ++ 0 ∷ 0 ∷ 0 ∷ [])) (length-take-le 3 (ws ++ 0 ∷ 0 ∷ 0 ∷ []) (omega (arith, length-append ws (0 ∷ 0 ∷ 0 ∷ []))))
 
--- three texts
-module _ (x y z : ℕ) (r : List ℕ) (s : State) where
-  pub texts_first : (e : Refusal) → said (walk_text_like x r s) ≡ err e → said (walk_texts x y z r s) ≡ err e
-  unfolding walk_texts
-  texts_first = first_off (walk_text_like x) (walk_text_like y) (walk_text_like z) r s
+-- a source that is not read, and one that is
+pub source_refused : (r : List ℕ) (a : ℕ) {e : _} → err e ≡ parsed source_block_of SI r a → read_block SI r a ≡ err e
+unfolding parsed
+source_refused r a q = ok_only (read_block SI r a) source_block_of _ (sym q)
 
-  module _ (s1 : State) (p : said (walk_text_like x r s) ≡ ok s1) where
-    pub texts_second : (e : Refusal) → said (walk_text_like y r s1) ≡ err e → said (walk_texts x y z r s) ≡ err e
-    unfolding walk_texts
-    texts_second = second_off (walk_text_like x) (walk_text_like y) (walk_text_like z) r s s1 p
-
-    pub texts_third : (s2 : State) → said (walk_text_like y r s1) ≡ ok s2 → said (walk_texts x y z r s) ≡ said (walk_text_like z r s2)
-    unfolding walk_texts
-    texts_third s2 q = ap said (third (walk_text_like x) (walk_text_like y) (walk_text_like z) r s s1 p s2 q)
-
--- a source that is not read, and what one that is tells
-pub source_refused : (r : List ℕ) (a : ℕ) (s : State) {e : Refusal} → err e ≡ parsed source_block_of SI r a → said (enter_source a r s) ≡ err e
-unfolding enter_source parsed
-source_refused r a s q =
-    bind_off (enter SI a (no_records 0)) _ r s _ (enter_refused SI a (no_records 0) r s _ (ok_only (read_block SI r a) source_block_of _ (sym q)))
-
-pub record SourceTold (r : List ℕ) (a : ℕ) (b : SourceBlock) : Type 0 where
-  pub own : List ℕ
-  pub read : read_block SI r a ≡ ok own
-  pub long : b.block_len ≡ block_len own
-  pub targets : b.name_addr ∷ b.path_addr ∷ b.comment_addr ∷ [] ≡ (shape SI).targets own
-
-pub source_told : (r : List ℕ) (a : ℕ) {b : SourceBlock} → ok b ≡ parsed source_block_of SI r a → SourceTold r a b
+pub source_found : (r : List ℕ) (a : ℕ) {b : SourceBlock} → ok b ≡ parsed source_block_of SI r a
+    → {x : Block} → x ≡ record { offset = a; size = b.block_len; mark = 0x49532323; kind = code.SI; layout = no_layout }
+    → Found SI (no_records 0) r a x (b.name_addr ∷ b.path_addr ∷ b.comment_addr ∷ [])
 unfolding source_block_of
-source_told r a e =
+source_found r a {b} e z =
     let p = parsed_ok source_block_of SI r a (sym e) in
-    record {
-      own = p.0;
-      read = p.1;
-      long = ap (λ (g : SourceBlock). g.block_len) (sym p.2);
-      targets = ap (λ (g : SourceBlock). g.name_addr ∷ g.path_addr ∷ g.comment_addr ∷ []) (sym p.2) ∙ si_targets p.0;
-    }
+    plain_found simple_si r a p.0 p.1 b.block_len 0x49532323 code.SI refl (ap (λ (g : SourceBlock). g.block_len) (sym p.2)) (si_mark r a p.0 p.1)
+    (b.name_addr ∷ b.path_addr ∷ b.comment_addr ∷ [])
+    (ap (λ (g : SourceBlock). g.name_addr ∷ g.path_addr ∷ g.comment_addr ∷ []) (sym p.2) ∙ si_targets p.0) z
 
 -- behind its row, its three texts are walked
-source_entered : (a : ℕ) (r : List ℕ) (s : State) (o : List ℕ) (x y z : ℕ) (s' : State)
-    → enter SI a (no_records 0) r s ≡ ok ((o, map (make_link r) (x ∷ y ∷ z ∷ [])), s') → said (enter_source a r s) ≡ said (walk_texts x y z r s')
-unfolding enter_source ◌>>=◌ and_then addr link_of make_link
-source_entered a r s o x y z s' e = rw e
-
-module _ (r : List ℕ) (a : ℕ) (b : SourceBlock) (t : SourceTold r a b) where
-  pub source_tells : Tells SI (no_records 0) t.own (plain a b.block_len 0x49532323 6) (b.name_addr ∷ b.path_addr ∷ b.comment_addr ∷ [])
-  source_tells = simple_tells SI 6 simple_si r a t.own t.read _ _ _ t.long (si_mark r a t.own t.read) t.targets
-
-  -- the answer of its listing
-  abbrev pub source_row : State → Out State
-  source_row s = state_of (after_reading SI a (no_records 0) s t.own (map (make_link r) (b.name_addr ∷ b.path_addr ∷ b.comment_addr ∷ [])) (ok tt))
-
-  pub source_off : (s : State) (e : Refusal) → source_row s ≡ err e → said (enter_source a r s) ≡ err e
-  unfolding enter_source
-  source_off s e q =
-      bind_off (enter SI a (no_records 0)) _ r s e
-      (enter_read SI a (no_records 0) r s t.own (b.name_addr ∷ b.path_addr ∷ b.comment_addr ∷ []) t.read t.targets (simple_si.name r _) ∙ q)
-
-  pub source_on : (s s' : State) → source_row s ≡ ok s' → said (enter_source a r s) ≡ said (walk_texts b.name_addr b.path_addr b.comment_addr r s')
-  source_on s s' q =
-      source_entered a r s t.own b.name_addr b.path_addr b.comment_addr s'
-      (enter_told SI a (no_records 0) r s t.own (b.name_addr ∷ b.path_addr ∷ b.comment_addr ∷ []) t.read t.targets (simple_si.name r _) s' q)
-
--- a conversion
-module _ (cn a : ℕ) (r : List ℕ) (s : State) where
-  pub conversion_null : a ≡ 0 → said (walk_conversion cn a r s) ≡ ok s
-  unfolding walk_conversion seen choose pure
-  conversion_null h = rw (eq-eqb a 0 h)
-
-  module _ (h : a ≡ 0 → ⊥) where
-    pub conversion_seen : elem a s.visited ≡ true → said (walk_conversion cn a r s) ≡ ok s
-    unfolding walk_conversion seen choose pure
-    conversion_seen e = rw (ne_eqb a 0 h, e)
-
-    pub conversion_new : elem a s.visited ≡ false → said (walk_conversion cn a r s) ≡ err (refusal 9 a cn 0)
-    unfolding walk_conversion seen choose stop
-    conversion_new e = rw (ne_eqb a 0 h, e)
+pub source_then : (a x y z : ℕ) {o : List ℕ} {w w1 w2 : Walker} {r : std.Result (Unit {0}) MdfError}
+    → Does (λ (u : Unit {0}). (o, map (make_link w.file.now) (x ∷ y ∷ z ∷ []))) w (std.Ok tt) w1 (enter SI a (no_records 0))
+    → Walks w1 r w2 (walk_text_like x >> walk_text_like y >> walk_text_like z)
+    → Walks w r w2 (enter SI a (no_records 0) >>= λ b. walk_text_like (addr b 0) >> walk_text_like (addr b 1) >> walk_text_like (addr b 2))
+source_then a x y z p q = then _ p (unfold addr link_of make_link in q)

@@ -1,6 +1,6 @@
 -- Laws that the proofs of these functions, and of the walk above them, cite.
 pub mod Offsets
-pub mod Storing
+pub mod Indexes
 pub mod States
 pub mod Start
 pub mod Steps

@@ -1,19 +1,11 @@
--- For the entries: tables of zeros hold the state in which a walk starts; and what a walk asks before a block is listed. Assumes nothing.
-use mathlib.Core.Path.{◌≡◌, refl, ap}
-use mathlib.Core.List.{List, []}
-use Prim.Native.Nat.{ℕ, ◌-◌, ◌/◌}
-use native.Mathlib.Omega.{arith}
-use lib.ListN.{length, replicate, length-replicate}
+-- Tables of zeros hold the state in which a walk starts. Assumes nothing.
+use Rattle.std.proofs.Common.{◌≡◌, refl, ap, List, [], ℕ, ◌-◌, ◌/◌, length, replicate, arith}
+use Rattle.std.proofs.lemmas.List.{length-replicate}
 use Rattle.mdf4.specs.Bytes.{concat_map}
 use Rattle.mdf4.specs.Walk.{start}
 use Rattle.mdf4.specs.Answers.{filled}
-use Rattle.walk_state.specs.declared.Walk.{Walk}
 use Rattle.tables.specs.Rows.{table, held_rows, held_links, Used}
-use Rattle.walk_state.specs.Held.{held, Within, Counted}
-
--- nothing in use
-abbrev pub none : Walk
-none = record { visited = 0; blocks = 0; links = 0; dg = 0; cg = 0; cn = 0 }
+use Rattle.walk_state.specs.Within.{held, none, Within}
 
 pub held_none : (v b l : List ℕ) → held none v b l ≡ start (record { visited = length v; blocks = length b / 12; links = length l / 2 })
 unfolding held held_rows held_links table start
@@ -28,6 +20,3 @@ used_none n =
 pub within_none : (n m p : ℕ) → Within none (replicate n 0) (replicate m 0) (replicate p 0)
 unfolding held_rows held_links table concat_map
 within_none n m p = record { visited = used_none n; rows = used_none m; links = used_none p; dg = omega arith; cg = omega arith; cn = omega arith }
-
-pub counted : {w : Walk} {v b l : List ℕ} → Within w v b l → Counted w l
-counted h = record { links = h.links.fits; dg = h.dg; cg = h.cg; cn = h.cn }

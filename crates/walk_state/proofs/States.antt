@@ -1,53 +1,51 @@
 -- What a stored word or row does to the state that the tables hold. Assumes nothing.
-use mathlib.Core.Path.{◌≡◌, refl, sym, ap, ◌∙◌}
-use mathlib.Core.Bool.{Bool, true, false}
-use mathlib.Core.List.{List, [], ◌∷◌, ◌++◌, append-nil, append_assoc}
-use Prim.Native.Nat.{ℕ, ◌+◌, ◌*◌, ◌≤◌, ◌<◌}
-use native.Mathlib.Omega.{arith}
-use native.Mathlib.Numerals.{add-one}
-use lib.Dec.{eqb}
-use lib.ListN.{length, take, set, length-set, length-append}
-use lib.Seq.{length-take-le, take-suc-set, sets, length-sets}
+use Rattle.std.proofs.Common.{◌≡◌, refl, ap, ◌∙◌, Bool, true, false, List, [], ◌∷◌, ◌++◌, ℕ, ◌+◌, ◌*◌, ◌≤◌, ◌<◌, length, take, set, arith}
+use Rattle.std.proofs.Common.{add-one, append-nil, length-set}
+use Rattle.std.proofs.lemmas.List.Edits.{sets}
+use lib.Seq.{length-take-le, take-suc-set, length-sets}
 use borrow.Author.Tests.{lt-ltb, le-ltb}
 use Rattle.mdf4.specs.Bytes.{bit}
-use Rattle.mdf4.specs.Act.{Kind, Row, Link, State, elem, and_then, check, marked, visit}
-use Rattle.mdf4.specs.Kinds.{shape, is}
+use Rattle.mdf4.specs.Act.{Kind, DG, CG, CN, Row, Link, ok, err, refusal, and_then, check, marked, visit, reason}
+use Rattle.mdf4.specs.Kinds.{is}
 use Rattle.mdf4.specs.Walk.{push}
 use Rattle.mdf4.specs.Answers.{row_words, link_words}
-use Rattle.blocks.specs.declared.error.MdfError.TheVariants.{VisitedFull}
-use Rattle.walk_state.specs.declared.Row as declared
 use Rattle.walk_state.specs.declared.Walk.{Walk}
-use Rattle.walk_state.specs.declared.Walked.TheVariants.{On, Refused}
 use Rattle.tables.specs.Rows.{Used, row_of_words, link_of_words, held_rows, held_links}
-use Rattle.walk_state.specs.Held.{held, said, Within, Met, row_told, Listed, with_links, Linked}
-use Rattle.tables.proofs.Tables.{used_more, row_more, words_more}
+use Rattle.walk_state.specs.Within.{held, Within, one_listed, with_links}
+use Rattle.tables.proofs.Tables.{used_more, row_more, words_more, table_length}
 use Rattle.tables.proofs.Words.{row_again, link_again}
+
+pub links_held : (w : Walk) (v b l : List ℕ) → length (held w v b l).links ≡ w.links
+unfolding held held_links
+links_held w v b l = table_length 2 link_of_words w.links l
 
 -- the counts with one offset more
 abbrev pub one_visited : Walk → Walk
 one_visited w = record { visited = w.visited + 1; blocks = w.blocks; links = w.links; dg = w.dg; cg = w.cg; cn = w.cn }
 
-module _ (w : Walk) (v b l : List ℕ) (h : Within w v b l) (k : Kind) (file : List ℕ) (at : ℕ) where
-  pub visit_on : w.visited < length v → Met w (On (one_visited w)) (set v w.visited at) b l (said (visit k at file (held w v b l)))
-  unfolding held visit and_then check marked
-  visit_on m =
-      let n : ℕ = w.visited in
-      let long : length (take n v) ≡ n = length-take-le n v (omega arith) in
-      let more : take (n + 1) (set v n at) ≡ take n v ++ at ∷ [] = rw add-one (take-suc-set v n at m) in
-      let used : Used (n + 1) (take n v ++ at ∷ []) (set v n at) = used_more n (take n v) (at ∷ []) v h.visited long (omega arith) in
-      record {
-        says = rw (more, long, lt-ltb n (length v) m, length-set);
-        after = record {
-          within = record { visited = rw more used; rows = h.rows; links = h.links; dg = h.dg; cg = h.cg; cn = h.cn };
-          grew = omega arith;
-        };
-      }
+module _ (w : Walk) (v b l : List ℕ) (h : Within w v b l) (at : ℕ) where
+  take_more : w.visited < length v → take (w.visited + 1) (set v w.visited at) ≡ take w.visited v ++ at ∷ []
+  take_more m = rw add-one (take-suc-set v w.visited at m)
 
-  pub visit_full : length v ≤ w.visited → Met w (Refused (VisitedFull at (length v))) v b l (said (visit k at file (held w v b l)))
-  unfolding held visit and_then check
-  visit_full m =
-      let long : length (take w.visited v) ≡ w.visited = length-take-le w.visited v (omega (arith, h.visited.fits)) in
-      record { says = rw (long, le-ltb w.visited (length v) m); after = tt }
+  pub visit_within : w.visited < length v → Within (one_visited w) (set v w.visited at) b l
+  visit_within m =
+      let long : length (take w.visited v) ≡ w.visited = length-take-le w.visited v (omega arith) in
+      let used : Used (w.visited + 1) (take w.visited v ++ at ∷ []) (set v w.visited at) = used_more w.visited (take w.visited v)
+      (at ∷ []) v h.visited long (omega arith) in
+      record { visited = rw (take_more m) used; rows = h.rows; links = h.links; dg = h.dg; cg = h.cg; cn = h.cn }
+
+  module _ (k : Kind) (file : List ℕ) where
+    pub visit_on : w.visited < length v → ok (tt, held (one_visited w) (set v w.visited at) b l) ≡ reason (visit k at file (held w v b l))
+    unfolding held visit and_then check marked reason
+    visit_on m =
+        let long : length (take w.visited v) ≡ w.visited = length-take-le w.visited v (omega arith) in
+        rw (take_more m, long, lt-ltb w.visited (length v) m, length-set)
+
+    pub visit_full : length v ≤ w.visited → err (refusal 10 at (length v) 0) ≡ reason (visit k at file (held w v b l))
+    unfolding held visit and_then check reason
+    visit_full m =
+        let long : length (take w.visited v) ≡ w.visited = length-take-le w.visited v (omega (arith, h.visited.fits)) in
+        rw (long, le-ltb w.visited (length v) m)
 
 row_sized : (x : Row) → length (row_words [] x) ≡ 12
 unfolding row_words
@@ -57,95 +55,69 @@ link_sized : (x : Link) → length (link_words x) ≡ 2
 unfolding link_words
 link_sized x = refl
 
--- the counts with one row more, of a kind with the number given
-abbrev pub one_listed : ℕ → Walk → Walk
-one_listed n w = record {
-  visited = w.visited;
-  blocks = w.blocks + 1;
-  links = w.links;
-  dg = w.dg + bit (eqb n 3);
-  cg = w.cg + bit (eqb n 4);
-  cn = w.cn + bit (eqb n 5);
-}
-
 bit_one : (t : Bool) → bit t ≤ 1
 unfolding bit
 bit_one true = omega arith
 bit_one false = omega arith
 
--- the words of a row, as the code stores them
-abbrev pub told_words : declared.Row → List ℕ
-told_words r =
-    r.offset ∷ r.end ∷ r.size ∷ r.mark ∷ r.kind ∷ r.index ∷ r.first_link ∷ r.link_count ∷ r.record_size ∷ r.invalidation_bytes
-    ∷ r.record_id_len ∷ 0 ∷ []
-
-told_again : (k : Kind) (r : declared.Row) → r.kind ≡ (shape k).number → row_words [] (row_told k r) ≡ told_words r
-unfolding row_words row_told elem bit
-told_again k r e = rw e
-
-module _ (w : Walk) (b : List ℕ) (r : declared.Row) (room : w.blocks * 12 + 12 ≤ length b) (k : Kind) (e : r.kind ≡ (shape k).number) (v l : List ℕ) where
-  row_says : held (one_listed r.kind w) v (sets b (w.blocks * 12) (told_words r)) l ≡ push k (row_told k r) [] (held w v b l)
-  unfolding held held_rows push is shape
+-- the row x is stored behind those in use
+module _ (w : Walk) (v b l : List ℕ) (room : w.blocks * 12 + 12 ≤ length b) (k : Kind) (x : Row) where
+  pub row_says : held (one_listed k w) v (sets b (w.blocks * 12) (row_words [] x)) l ≡ push k x [] (held w v b l)
+  unfolding held held_rows push one_listed
   row_says =
       let n : ℕ = w.blocks in
-      let m : held_rows (n + 1) (sets b (n * 12) (told_words r)) ≡ held_rows n b ++ row_told k r ∷ [] =
-      ap (λ (ws : List ℕ). held_rows (n + 1) (sets b (n * 12) ws)) (sym (told_again k r e))
-      ∙ row_more 12 row_of_words (row_words []) row_sized (row_again []) n b (row_told k r) room in
-      rw (m, length-sets b (n * 12) (told_words r), append-nil, e)
+      let m : held_rows (n + 1) (sets b (n * 12) (row_words [] x)) ≡ held_rows n b ++ x ∷ [] = row_more 12 row_of_words (row_words []) row_sized
+      (row_again []) n b x room in
+      rw (m, length-sets b (n * 12) (row_words [] x), append-nil)
 
-  row_within : Within w v b l → Within (one_listed r.kind w) v (sets b (w.blocks * 12) (told_words r)) l
-  unfolding held_rows
-  row_within h =
-      let m = words_more 12 row_of_words (row_words []) row_sized (row_again []) w.blocks b (row_told k r) room h.rows in
-      record {
-        visited = h.visited;
-        rows = rw (told_again k r e) at m;
-        links = h.links;
-        dg = omega (arith, h.dg, bit_one (eqb r.kind 3));
-        cg = omega (arith, h.cg, bit_one (eqb r.kind 4));
-        cn = omega (arith, h.cn, bit_one (eqb r.kind 5));
-      }
+  pub row_within : Within w v b l → Within (one_listed k w) v (sets b (w.blocks * 12) (row_words [] x)) l
+  unfolding held_rows one_listed
+  row_within h = record {
+    visited = h.visited;
+    rows = words_more 12 row_of_words (row_words []) row_sized (row_again []) w.blocks b x room h.rows;
+    links = h.links;
+    dg = omega (arith, h.dg, bit_one (is k DG));
+    cg = omega (arith, h.cg, bit_one (is k CG));
+    cn = omega (arith, h.cn, bit_one (is k CN));
+  }
 
-pub row_pushed : (w : Walk) (b : List ℕ) (r : declared.Row) → w.blocks * 12 + 12 ≤ length b → Listed w (one_listed r.kind w) r b (sets b (w.blocks * 12) (told_words r))
-row_pushed w b r room = record {
-  links = refl;
-  after = λ k v l e h. record { says = row_says w b r room k e v l; later = record { within = row_within w b r room k e v l h; grew = omega arith } };
-}
+-- the same of the words ws that the code stores
+module _ (w w' : Walk) (v b b' l : List ℕ) (room : w.blocks * 12 + 12 ≤ length b) (k : Kind) (x : Row) (ws : List ℕ) (e : w' ≡ one_listed k w)
+    (f : b' ≡ sets b (w.blocks * 12) ws) (g : ws ≡ row_words [] x) where
+  pub row_pushed : held w' v b' l ≡ push k x [] (held w v b l)
+  row_pushed = rw (e, f, g) (row_says w v b l room k x)
 
--- the counts with n links more
-abbrev pub more_linked : ℕ → Walk → Walk
-more_linked n w = record { visited = w.visited; blocks = w.blocks; links = w.links + n; dg = w.dg; cg = w.cg; cn = w.cn }
+  pub row_fits : Within w v b l → Within w' v b' l
+  row_fits h = rw (e, f, g) (row_within w v b l room k x h)
 
-pub link_pushed : (w : Walk) (l : List ℕ) (x : Link) → w.links * 2 + 2 ≤ length l
-    → Linked w (more_linked 1 w) (x ∷ []) l (sets l (w.links * 2) (x.target ∷ x.found ∷ []))
-unfolding held held_links with_links link_words
-link_pushed w l x room =
-    let m = row_more 2 link_of_words link_words link_sized link_again w.links l x room in
-    let u = words_more 2 link_of_words link_words link_sized link_again w.links l x room in
-    record {
-      links = refl;
-      after = λ v b h. record {
-        says = rw (m, length-sets);
-        later = record {
-          within = record { visited = h.visited; rows = h.rows; links = u h.links; dg = h.dg; cg = h.cg; cn = h.cn };
-          grew = omega arith;
-        };
-      };
-    }
+  pub row_grew : w.visited ≤ w'.visited
+  unfolding one_listed
+  row_grew = rw e (omega arith)
 
--- links pushed twice
-with_both : (ls ms : List Link) (s : State) → with_links ms (with_links ls s) ≡ with_links (ls ++ ms) s
-unfolding with_links
-with_both ls ms s = rw append_assoc
+  pub row_long : length b' ≡ length b
+  row_long = ap length f ∙ length-sets b (w.blocks * 12) ws
 
-pub linked_then : {w w' w'' : Walk} {ls ms : List Link} {l l' l'' : List ℕ} → Linked w w' ls l l' → Linked w' w'' ms l' l'' → Linked w w'' (ls ++ ms) l l''
-linked_then {w} {w'} {w''} {ls} {ms} {l} {l'} {l''} p q = record {
-  links = omega (arith, p.links, q.links, length-append ls ms);
-  after = λ v b h.
-      let x = p.after v b h in
-      let y = q.after v b x.later.within in
-      record {
-        says = y.says ∙ ap (with_links ms) x.says ∙ with_both ls ms (held w v b l);
-        later = record { within = y.later.within; grew = omega (arith, x.later.grew, y.later.grew) };
-      };
-}
+-- the counts with one link more
+abbrev pub one_linked : Walk → Walk
+one_linked w = record { visited = w.visited; blocks = w.blocks; links = w.links + 1; dg = w.dg; cg = w.cg; cn = w.cn }
+
+-- the link x is stored behind those in use
+module _ (w : Walk) (v b l : List ℕ) (room : w.links * 2 + 2 ≤ length l) (x : Link) where
+  two_sets : set (set l (w.links * 2) x.target) (w.links * 2 + 1) x.found ≡ sets l (w.links * 2) (link_words x)
+  unfolding link_words
+  two_sets = rw add-one
+
+  pub link_says : held (one_linked w) v b (set (set l (w.links * 2) x.target) (w.links * 2 + 1) x.found) ≡ with_links (x ∷ []) (held w v b l)
+  unfolding held held_links with_links
+  link_says = rw (two_sets, row_more 2 link_of_words link_words link_sized link_again w.links l x room, length-sets)
+
+  pub link_within : Within w v b l → Within (one_linked w) v b (set (set l (w.links * 2) x.target) (w.links * 2 + 1) x.found)
+  unfolding held_links
+  link_within h = record {
+    visited = h.visited;
+    rows = h.rows;
+    links = rw two_sets (words_more 2 link_of_words link_words link_sized link_again w.links l x room h.links);
+    dg = h.dg;
+    cg = h.cg;
+    cn = h.cn;
+  }

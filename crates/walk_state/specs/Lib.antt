@@ -1,2 +1,3 @@
--- What the walk's counts and lent tables hold. No file here holds a proof.
+-- What the walk's counts and lent tables hold, and what each step does to it. No file here holds a proof.
+pub mod Within
 pub mod Held

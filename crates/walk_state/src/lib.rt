@@ -1,31 +1,25 @@
-// The lowest layer of the walk, the Rust's `impl Walker`: offsets visited, rows and links in lent tables of words.
-// specs/Held.antt says what state the tables hold; each function is proved to do to it what the definition does.
+// The lowest layer of the walk, the Rust's `Walker`: offsets visited, rows and links in lent tables of words.
+// specs/Held.antt says what state the tables hold; each method is proved to do to it what the definition does.
 
 #![tactic(auto)]
 
-ghost use Rattle.std.specs.Prelude.{◌≡◌, List, [], ◌∷◌, map, cond, ℕ, ◌+◌, ◌*◌, ◌^◌, ◌≤◌, ◌<◌, ltb, eqb, length, take};
-ghost use Rattle.std.proofs.lemmas.List.Edits.{sets};
+ghost use Rattle.std.specs.Prelude.{◌≡◌, List, [], ◌∷◌, ℕ, ◌+◌, ◌*◌, ◌^◌, ◌≤◌, ◌<◌, ltb, length};
 ghost use Rattle.mdf4.specs.Act as spec;
 ghost use Rattle.mdf4.specs.Kinds as kinds;
 ghost use Rattle.mdf4.specs.Walk as walk;
-ghost use Rattle.mdf4.specs.Answers.{pair_words};
-ghost use Rattle.mdf4.specs.Bytes.{bit};
-ghost use Rattle.walk_state.specs.Held.{held, said, state_of, checked, Within, Met, RowFits, Listed, Linked, room_for, row_made, Tells, Counted};
+ghost use Rattle.mdf4.specs.Answers.{block_row_words, pair_words, row_words};
+ghost use Rattle.blocks.specs.Errors.{told};
+ghost use Rattle.blocks.specs.Kind.{kind_named};
+ghost use Rattle.tables.specs.Rows.{info_words};
+ghost use Rattle.walk_state.specs.Within.{Within, no_layout, link_of, room_for, row_made, with_links, indexed, one_listed, CallableBelow, Gives, Tells};
 
-use blocks::common::wide;
 use blocks::error::MdfError;
+use blocks::kind::Kind;
 use little_endian::read_u32;
-use tables::{BLOCK_ROW_WORDS, PAIR_WORDS};
-
-// Document 01's numbers of the kinds that count.
-const DG: u64 = 3;
-
-const CG: u64 = 4;
-
-const CN: u64 = 5;
+use tables::{BLOCK_ROW_WORDS, BlockInfo, PAIR_WORDS};
 
 // The rows in use of each table, and the next index of each kind that counts.
-#[derive(Clone, Copy)]
+#[derive(Clone, Copy, Debug, Default, PartialEq, Eq)]
 pub struct Walk {
     pub visited: usize,
     pub blocks: usize,
@@ -35,308 +29,263 @@ pub struct Walk {
     pub cn: u64,
 }
 
-#[derive(Drop)]
-pub enum Walked {
-    On(Walk),
-    Refused(MdfError),
-}
-
-// A row of the block table; its last word, the tree mark, is 0.
-#[derive(Drop)]
-pub struct Row {
-    pub offset: u64,
-    pub end: u64,
-    pub size: u64,
-    pub mark: u64,
-    pub kind: u64,
-    pub index: u64,
-    pub first_link: u64,
-    pub link_count: u64,
+// What a channel group says of its records, as it is handed down to its data blocks.
+#[derive(Clone, Copy, Debug, Default, PartialEq, Eq)]
+pub struct RecordLayout {
     pub record_size: u64,
     pub invalidation_bytes: u64,
     pub record_id_len: u64,
 }
 
+// A row of the link table: `found` is 0, or 1 + the mark at the target.
+#[derive(Clone, Copy, Debug, PartialEq, Eq)]
+pub struct Link {
+    pub target: u64,
+    pub found: u64,
+}
+
 // What a row takes from its block.
-#[derive(Clone, Copy)]
+#[derive(Clone, Copy, Debug, PartialEq, Eq)]
 pub struct Block {
     pub offset: u64,
     pub size: u64,
     pub mark: u64,
-    pub kind: u64,
-    pub record_size: u64,
-    pub invalidation_bytes: u64,
-    pub record_id_len: u64,
+    pub kind: Kind,
+    pub layout: RecordLayout,
 }
 
-// Whether an offset is among the first n of the visited table.
-pub fn seen(visited: &[u64], n: usize, at: u64) -> bool
-    ensures { result ≡ spec.elem at (take n visited.now) }
-{
-    let mut i = 0;
-    while i < visited.len() {
-        if n <= i {
-            return false;
+impl Link {
+    // A link to a target in a recording, with the mark that stands there.
+    pub fn new(file: &[u8], target: u64) -> Link
+        ensures { link_of result ≡ kinds.make_link file.now target }
+    {
+        let len = file.len() as u64;
+        let found = if target != 0 && 4 <= len && target <= len - 4 {
+            1 + u64::from(read_u32(file, target as usize))
+        } else {
+            0
+        };
+        Link { target, found }
+    }
+}
+
+impl Block {
+    // A block that holds no records.
+    pub fn plain(offset: u64, size: u64, mark: u32, kind: Kind) -> Block
+        ensures { result ≡ record { offset = offset; size = size; mark = mark; kind = kind; layout = no_layout } }
+    {
+        Block {
+            offset,
+            size,
+            mark: u64::from(mark),
+            kind,
+            layout: RecordLayout::default(),
         }
-        if visited[i] == at {
-            return true;
+    }
+}
+
+impl Walk {
+    // The index of the next block of a kind.
+    fn index_of(self, kind: Kind) -> u64
+        ensures { result ≡ indexed self (kind_named kind) }
+    {
+        match kind {
+            Kind::DG => self.dg,
+            Kind::CG => self.cg,
+            Kind::CN => self.cn,
+            _ => 0,
         }
-        i += 1;
     }
-    false
-}
 
-// Marks an offset as visited.
-pub fn visit(visited: &mut [u64], w: Walk, at: u64) -> Walked
-    ensures { (k : spec.Kind) (file b l : List ℕ) → Within w visited.old b l → Met w result visited.new b l (said (spec.visit k at file (held w visited.old b l))) }
-{
-    let n = w.visited;
-    if n < visited.len() {
-        visited[n] = at;
-        let mut next = w;
-        next.visited = n + 1;
-        return Walked::On(next);
+    // The counts behind one more row of a kind.
+    fn with_row(self, kind: Kind) -> Walk
+        requires rows_fit { self.blocks + 1 < 2 ^ 64 }
+        requires indexes_fit { (self.dg ≤ self.blocks) × (self.cg ≤ self.blocks) × (self.cn ≤ self.blocks) }
+        ensures { result ≡ one_listed (kind_named kind) self }
+    {
+        let mut next = self;
+        next.blocks += 1;
+        match kind {
+            Kind::DG => next.dg += 1,
+            Kind::CG => next.cg += 1,
+            Kind::CN => next.cn += 1,
+            _ => {}
+        }
+        next
     }
-    Walked::Refused(MdfError::VisitedFull {
-        place: at,
-        lent: visited.len() as u64,
-    })
-}
-
-// Stores words from a place on.
-fn store(table: &mut [u64], at: usize, words: &[u64])
-    requires { at + length words.now ≤ length table.old }
-    ensures { table.new ≡ sets table.old at words.now }
-{
-    let mut i = 0;
-    while i < words.len() {
-        table[at + i] = words[i];
-        i += 1;
-    }
-}
-
-// The next index of a kind, behind a block of the kind given.
-fn next_index(index: u64, kind: u64, counted: u64) -> u64
-    requires { index + 1 < 2 ^ 64 }
-    ensures { result ≡ index + bit (eqb kind counted) }
-{
-    if kind == counted {
-        return index + 1;
-    }
-    index
-}
-
-// Pushes a row of the block table.
-pub fn push_row(blocks: &mut [u64], w: Walk, row: Row) -> Walk
-    requires { RowFits w blocks.old }
-    ensures { Listed w result row blocks.old blocks.new }
-{
-    let words = [
-        row.offset,
-        row.end,
-        row.size,
-        row.mark,
-        row.kind,
-        row.index,
-        row.first_link,
-        row.link_count,
-        row.record_size,
-        row.invalidation_bytes,
-        row.record_id_len,
-        0,
-    ];
-    let n = w.blocks;
-    store(blocks, n * BLOCK_ROW_WORDS, &words);
-    let mut next = w;
-    next.blocks = n + 1;
-    next.dg = next_index(w.dg, row.kind, DG);
-    next.cg = next_index(w.cg, row.kind, CG);
-    next.cn = next_index(w.cn, row.kind, CN);
-    next
-}
-
-// Pushes a row of the link table.
-pub fn push_link(links: &mut [u64], w: Walk, target: u64, found: u64) -> Walk
-    requires { w.links * pair_words + pair_words ≤ length links.old }
-    ensures { Linked w result (record { target = target; found = found } ∷ []) links.old links.new }
-{
-    let words = [target, found];
-    let n = w.links;
-    store(links, n * PAIR_WORDS, &words);
-    let mut next = w;
-    next.links = n + 1;
-    next
-}
-
-// 0, or 1 + the mark at a link's target.
-pub fn make_link(file: &[u8], target: u64) -> u64
-    ensures { result ≡ (kinds.make_link file.now target).found }
-{
-    if target == 0 {
-        return 0;
-    }
-    let len = file.len() as u64;
-    if len < 4 {
-        return 0;
-    }
-    if len - 4 < target {
-        return 0;
-    }
-    1 + wide(read_u32(file, target as usize))
 }
 
 // A target and its four bytes have to lie below 2^64.
-pub fn check_target(w: Walk, target: u64) -> Walked
-    ensures { checked result ≡ spec.check (ltb (target + 4) (2 ^ 64)) (spec.refusal 7 target target 4) }
+fn check_target(target: u64) -> Result<(), MdfError>
+    ensures { told result ≡ spec.check (ltb (target + 4) (2 ^ 64)) (spec.refusal 7 target target 4) }
 {
-    if 0xffff_ffff_ffff_fffb < target {
-        return Walked::Refused(MdfError::SumOverflow {
+    if target.checked_add(4).is_none() {
+        return Err(MdfError::SumOverflow {
             place: target,
             a: target,
             b: 4,
         });
     }
-    Walked::On(w)
+    Ok(())
 }
 
-// The same of each target in order.
-fn check_targets(w: Walk, targets: &[u64]) -> Walked
-    ensures { checked result ≡ walk.targets_ok targets.now }
-{
-    let mut i = 0;
-    while i < targets.len() {
-        let r = check_target(w, targets[i]);
-        let Walked::On(_) = r else {
-            return r;
-        };
-        i += 1;
-    }
-    Walked::On(w)
+// A walk of a recording: the tables lent to it hold its state.
+#[derive(Drop)]
+pub struct Walker<'a> {
+    pub file: &'a [u8],
+    pub visited: &'a mut [u64],
+    pub blocks: &'a mut [u64],
+    pub links: &'a mut [u64],
+    pub walk: Walk,
+    ghost within: { Within walk visited.now blocks.now links.now },
 }
 
-// The block's end has to lie below 2^64, and the tables need room for its row and its links.
-pub fn check_room(
-    blocks: &[u64],
-    links: &[u64],
-    w: Walk,
-    offset: u64,
-    size: u64,
-    count: usize,
-) -> Walked
-    requires { w.links * pair_words ≤ length links.now }
-    ensures { (v : List ℕ) → checked result ≡ room_for offset size count (held w v blocks.now links.now) }
-{
-    if 0xffff_ffff_ffff_ffff - offset < size {
-        return Walked::Refused(MdfError::SumOverflow {
-            place: offset,
-            a: offset,
-            b: size,
-        });
-    }
-    let rows = blocks.len() / BLOCK_ROW_WORDS;
-    if rows <= w.blocks {
-        return Walked::Refused(MdfError::BlocksFull {
-            place: offset,
-            lent: rows as u64,
-        });
-    }
-    let pairs = links.len() / PAIR_WORDS;
-    if pairs - w.links < count {
-        return Walked::Refused(MdfError::LinksFull {
-            place: offset,
-            lent: pairs as u64,
-        });
-    }
-    Walked::On(w)
-}
+impl<'a> Walker<'a> {
+    ghost use Rattle.walk_state.specs.Held.{holds, Walks, Does, Stepped, mark, Lists};
 
-// The index of the next block of a kind.
-fn index_of(w: Walk, kind: u64) -> u64
-    ensures { result ≡ cond (eqb kind 3) w.dg (cond (eqb kind 4) w.cg (cond (eqb kind 5) w.cn 0)) }
-{
-    if kind == DG {
-        return w.dg;
+    // Whether an offset was visited.
+    pub fn seen(&self, at: u64) -> bool
+        ensures { result ≡ spec.elem at (holds self.now).visited }
+    {
+        self.visited[..self.walk.visited].contains(&at)
     }
-    if kind == CG {
-        return w.cg;
-    }
-    if kind == CN {
-        return w.cn;
-    }
-    0
-}
 
-// The first link of a row with `count` links.
-fn first_link(w: Walk, count: usize) -> u64
-    ensures { result ≡ cond (eqb count 0) 0 w.links }
-{
-    if count == 0 {
-        return 0;
+    // Marks an offset as visited.
+    pub fn visit(&mut self, at: u64) -> Result<(), MdfError>
+        ensures { (k : spec.Kind) → Walks self.old result self.new (spec.visit k at) }
+    {
+        let n = self.walk.visited;
+        if n < self.visited.len() {
+            self.visited[n] = at;
+            self.walk.visited = n + 1;
+            return Ok(());
+        }
+        Err(MdfError::VisitedFull {
+            place: at,
+            lent: self.visited.len() as u64,
+        })
     }
-    w.links as u64
-}
 
-// The row of a block with `count` links.
-pub fn row_of(w: Walk, block: Block, count: usize) -> Row
-    requires { block.offset + block.size < 2 ^ 64 }
-    ensures { result ≡ row_made w block count }
-{
-    let index = index_of(w, block.kind);
-    let first_link = first_link(w, count);
-    Row {
-        offset: block.offset,
-        end: block.offset + block.size,
-        size: block.size,
-        mark: block.mark,
-        kind: block.kind,
-        index,
-        first_link,
-        link_count: count as u64,
-        record_size: block.record_size,
-        invalidation_bytes: block.invalidation_bytes,
-        record_id_len: block.record_id_len,
+    // Marks an offset as visited, and says whether it is new.
+    pub fn mark(&mut self, at: u64) -> Result<bool, MdfError>
+        ensures { (k : spec.Kind) → Does (λ b. b) self.old result self.new (mark k at) }
+    {
+        if self.seen(at) {
+            return Ok(false);
+        }
+        self.visit(at)?;
+        Ok(true)
     }
-}
 
-// Pushes a link to each target.
-fn push_links(file: &[u8], links: &mut [u64], w: Walk, targets: &[u64]) -> Walk
-    requires { w.links * pair_words + length targets.now * pair_words ≤ length links.old }
-    ensures { Linked w result (map (kinds.make_link file.now) targets.now) links.old links.new }
-{
-    let mut i = 0;
-    let mut on = w;
-    while i < targets.len() {
-        let t = targets[i];
-        let found = make_link(file, t);
-        on = push_link(links, on, t, found);
-        i += 1;
+    // A link to a target, with the mark that stands there.
+    pub fn make_link(&self, target: u64) -> Link
+        ensures { link_of result ≡ kinds.make_link self.now.file.now target }
+    {
+        Link::new(self.file, target)
     }
-    on
-}
 
-// Lists a block whose content and name are accepted: its row, and a link for each target.
-pub fn list_block(
-    file: &[u8],
-    blocks: &mut [u64],
-    links: &mut [u64],
-    w: Walk,
-    block: Block,
-    targets: &[u64],
-) -> Walked
-    requires { Counted w links.old }
-    ensures { (k : spec.Kind) (h : kinds.RecordLayout) (o v : List ℕ) → Tells k h o block targets.now → Within w v blocks.old links.old → Met w result v blocks.new links.new (state_of (walk.after_reading k block.offset h (held w v blocks.old links.old) o (map (kinds.make_link file.now) targets.now) (spec.ok tt))) }
-{
-    let r1 = check_targets(w, targets);
-    let Walked::On(_) = r1 else {
-        return r1;
-    };
-    let count = targets.len();
-    let r2 = check_room(blocks, links, w, block.offset, block.size, count);
-    let Walked::On(_) = r2 else {
-        return r2;
-    };
-    let row = row_of(w, block, count);
-    let w1 = push_row(blocks, w, row);
-    let w2 = push_links(file, links, w1, targets);
-    Walked::On(w2)
+    // The block's end has to lie below 2^64, and the tables need room for its row and its links.
+    fn check_room(&self, offset: u64, size: u64, count: usize) -> Result<(), MdfError>
+        ensures { told result ≡ room_for offset size count (holds self.now) }
+    {
+        if offset.checked_add(size).is_none() {
+            return Err(MdfError::SumOverflow {
+                place: offset,
+                a: offset,
+                b: size,
+            });
+        }
+        let rows = self.blocks.len() / BLOCK_ROW_WORDS;
+        if rows <= self.walk.blocks {
+            return Err(MdfError::BlocksFull {
+                place: offset,
+                lent: rows as u64,
+            });
+        }
+        let pairs = self.links.len() / PAIR_WORDS;
+        if pairs - self.walk.links < count {
+            return Err(MdfError::LinksFull {
+                place: offset,
+                lent: pairs as u64,
+            });
+        }
+        Ok(())
+    }
+
+    // The row of a block with `count` links.
+    fn row_of(&self, block: Block, count: usize) -> BlockInfo
+        requires { block.offset + block.size < 2 ^ 64 }
+        ensures { info_words result ≡ row_words [] (row_made block count (holds self.now)) }
+    {
+        BlockInfo {
+            offset: block.offset,
+            end_offset: block.offset + block.size,
+            size: block.size,
+            mark: block.mark,
+            kind: u64::from(block.kind),
+            index: self.walk.index_of(block.kind),
+            first_link: if count == 0 {
+                0
+            } else {
+                self.walk.links as u64
+            },
+            link_count: count as u64,
+            record_size: block.layout.record_size,
+            invalidation_bytes: block.layout.invalidation_bytes,
+            record_id_len: block.layout.record_id_len,
+        }
+    }
+
+    // Pushes the row of a block with `count` links.
+    fn push_row(&mut self, block: Block, count: usize)
+        requires fits { block.offset + block.size < 2 ^ 64 }
+        requires room { self.old.walk.blocks * block_row_words + block_row_words ≤ length self.old.blocks.now }
+        ensures { Stepped self.old self.new (walk.push (kind_named block.kind) (row_made block count (holds self.old)) [] (holds self.old)) }
+    {
+        let row = self.row_of(block, count);
+        let blocks = &mut *self.blocks;
+        row.store(blocks, self.walk.blocks);
+        self.walk = self.walk.with_row(block.kind);
+    }
+
+    // Pushes a link.
+    fn push_link(&mut self, link: Link)
+        requires { self.old.walk.links * pair_words + pair_words ≤ length self.old.links.now }
+        ensures { Stepped self.old self.new (with_links (link_of link ∷ []) (holds self.old)) }
+    {
+        let at = self.walk.links * PAIR_WORDS;
+        let links = &mut *self.links;
+        links[at] = link.target;
+        links[at + 1] = link.found;
+        self.walk.links += 1;
+    }
+
+    // Lists a block whose content and name are accepted: its row, and a link to each of the `count` targets that `target` tells.
+    pub fn list_links<F: Fn(usize) -> u64>(
+        &mut self,
+        block: Block,
+        count: usize,
+        target: F,
+    ) -> Result<(), MdfError>
+        requires { CallableBelow (F.pre target) count }
+        ensures { (h : kinds.RecordLayout) (o ts : List ℕ) → Gives (F.post target) count ts → Tells h o block ts → Lists h o ts block self.old result self.new }
+    {
+        for i in 0..count {
+            check_target(target(i))?;
+        }
+        self.check_room(block.offset, block.size, count)?;
+        self.push_row(block, count);
+        for i in 0..count {
+            let link = self.make_link(target(i));
+            self.push_link(link);
+        }
+        Ok(())
+    }
+
+    // The same of a block with its targets at hand.
+    pub fn list_block(&mut self, block: Block, targets: &[u64]) -> Result<(), MdfError>
+        ensures { (h : kinds.RecordLayout) (o : List ℕ) → Tells h o block targets.now → Lists h o targets.now block self.old result self.new }
+    {
+        self.list_links(block, targets.len(), |i| targets[i])
+    }
 }

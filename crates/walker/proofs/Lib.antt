@@ -1,7 +1,7 @@
--- Laws that the proofs of the walk's functions cite.
-pub mod Nexts
+-- Laws that the proofs cite.
+pub mod Entering
 pub mod Chaining
 pub mod ChannelSteps
-pub mod Grouping
-pub mod DataGroups
-pub mod HeaderWalk
+pub mod GroupSteps
+pub mod DataGroupSteps
+pub mod HeaderSteps

@@ -1,36 +1,18 @@
--- `record_data_block` meets its contract: visited, refused by the visited table, or listed.
-use native.Mathlib.Nat.{le_refl}
-use mathlib.Core.Bool.{true, false}
-use Rattle.mdf4.specs.Act.{DT}
-use Rattle.walk_state.specs.Held.{held}
-use Rattle.walk_state.proofs.Start.{counted}
-use Rattle.walk_state.proofs.Steps.{on, off, go, stop, last}
-use Rattle.walk_blocks.proofs.Entering.{seen_is}
-use Rattle.walk_blocks.proofs.DataBlocks.{data_seen, data_off, data_on}
+-- `record_data_block` meets its contract: seen, not marked, or listed.
+use Rattle.std.proofs.Common.{refl}
+use Rattle.mdf4.specs.Walk.{record_data_block}
+use Rattle.walk_blocks.specs.Regions.{list_header}
+use Rattle.walk_state.proofs.Steps.{handed, once_halt, once_old, once_new}
 use Rattle.walk_blocks.proofs.regions.record_data_block.Goals as goal
 
-pub returns-then-seen : goal.returns-then-seen
-returns-then-seen c k h t =
-    let a = c.args in
-    let n = seen_is a.w a.visited.now a.blocks.now a.links.now a.addr _ true c.seen.ensures c.if-seen.true in
-    go c.requires (le_refl _) (data_seen k a.addr h a.file.now (held a.w a.visited.now a.blocks.now a.links.now) n)
+pub returns-in_err-mark : goal.returns-in_err-mark
+unfolding record_data_block
+returns-in_err-mark c h t = handed _ c.from_residual.ensures.1 (once_halt _ _ _ _ (c.in_err-mark.ensures _))
 
-pub returns-in_default : goal.returns-in_default
-returns-in_default c k h t =
-    let a = c.args in
-    let n = seen_is a.w a.visited.now a.blocks.now a.links.now a.addr _ false c.seen.ensures c.if-seen.false in
-    let e = c.in_default.is in
-    stop e (data_off k a.addr h a.file.now (held a.w a.visited.now a.blocks.now a.links.now) n _ (off e (c.visit-r.ensures k a.file.now a.blocks.now a.links.now c.requires)))
-
-pub list_header-requires : goal.list_header-requires
-list_header-requires c =
-    let a = c.args in
-    counted (on c.in-On.is (c.visit-r.ensures DT a.file.now a.blocks.now a.links.now c.requires)).within
+pub returns-then-not-branch : goal.returns-then-not-branch
+unfolding record_data_block
+returns-then-not-branch c h t = once_old _ _ _ _ c.if-not-branch.true (c.in_ok-mark.ensures _) refl
 
 pub returns : goal.returns
-returns c k h t =
-    let a = c.args in
-    let n = seen_is a.w a.visited.now a.blocks.now a.links.now a.addr _ false c.seen.ensures c.if-seen.false in
-    let m = on c.in-On.is (c.visit-r.ensures k a.file.now a.blocks.now a.links.now c.requires) in
-    last (c.list_header.ensures k h _ t m.within) m.grew
-    (data_on k a.addr h a.file.now (held a.w a.visited.now a.blocks.now a.links.now) n _ m.says)
+unfolding record_data_block list_header
+returns c h t = once_new _ _ _ _ c.if-not-branch.false (c.in_ok-mark.ensures _) (c.list_header.ensures h t)

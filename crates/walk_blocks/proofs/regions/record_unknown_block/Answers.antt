@@ -1,57 +1,38 @@
--- `record_unknown_block` meets its contract: visited, refused by the visited table, too short to be listed, or listed.
-use Prim.Native.Nat.{◌+◌, ◌≤◌, ◌<◌}
-use native.Mathlib.Omega.{arith}
-use native.Mathlib.Nat.{le_refl}
-use mathlib.Core.Bool.{true, false}
-use lib.ListN.{length}
+-- `record_unknown_block` meets its contract: seen, not marked, too short, or listed.
+use Rattle.std.proofs.Common.{refl, ℕ, ◌+◌, ◌<◌, length, arith}
+use borrow.Author.Tests.{le-leb, lt-leb}
 use Rattle.mdf4.specs.Act.{UD}
 use Rattle.mdf4.specs.Kinds.{no_records}
-use Rattle.walk_state.specs.Held.{held}
-use Rattle.walk_state.proofs.Start.{counted}
-use Rattle.walk_state.proofs.Steps.{on, off, go, stop, last}
-use Rattle.walk_blocks.proofs.Entering.{seen_is}
-use Rattle.walk_blocks.proofs.DataBlocks.{data_unknown, unknown_seen, unknown_off, unknown_short, unknown_on}
+use Rattle.mdf4.specs.Walk.{record_unknown_block}
+use Rattle.walk_blocks.specs.Regions.{list_header}
+use Rattle.walk_state.proofs.Steps.{handed, yes, no, measured, done, once_halt, once_old, once_new}
+use Rattle.walk_blocks.proofs.DataBlocks.{data_unknown}
+use Rattle.walk_blocks.proofs.regions.record_unknown_block.Goals.{then-len-lt-MIN_LEN-via-then-len-lt-MIN_LEN}
+use Rattle.walk_blocks.proofs.regions.record_unknown_block.Goals.{then-len-lt-MIN_LEN-via-else-len-lt-MIN_LEN+then-len-addr}
 use Rattle.walk_blocks.proofs.regions.record_unknown_block.Goals as goal
 
-pub returns-then-seen : goal.returns-then-seen
-returns-then-seen c =
-    let a = c.args in
-    let n = seen_is a.w a.visited.now a.blocks.now a.links.now a.addr _ true c.seen.ensures c.if-seen.true in
-    go c.requires (le_refl _) (unknown_seen a.addr a.file.now (held a.w a.visited.now a.blocks.now a.links.now) n)
+pub returns-in_err-mark : goal.returns-in_err-mark
+unfolding record_unknown_block
+returns-in_err-mark c = handed _ c.from_residual.ensures.1 (once_halt UD _ _ _ (c.in_err-mark.ensures UD))
 
-pub returns-in_default : goal.returns-in_default
-returns-in_default c =
-    let a = c.args in
-    let n = seen_is a.w a.visited.now a.blocks.now a.links.now a.addr _ false c.seen.ensures c.if-seen.false in
-    let e = c.in_default.is in
-    stop e (unknown_off a.addr a.file.now (held a.w a.visited.now a.blocks.now a.links.now) n _ (off e (c.visit-r.ensures UD a.file.now a.blocks.now a.links.now c.requires)))
+pub returns-then-not-branch : goal.returns-then-not-branch
+unfolding record_unknown_block
+returns-then-not-branch c = once_old UD _ _ _ c.if-not-branch.true (c.in_ok-mark.ensures UD) refl
 
 pub returns-then-len-lt-MIN_LEN : goal.returns-then-len-lt-MIN_LEN
+unfolding record_unknown_block
 returns-then-len-lt-MIN_LEN c =
-    let a = c.args in
-    let n = seen_is a.w a.visited.now a.blocks.now a.links.now a.addr _ false c.seen.ensures c.if-seen.false in
-    let m = on c.in-On.is (c.visit-r.ensures UD a.file.now a.blocks.now a.links.now c.requires) in
-    let l : length a.file.now < a.addr + 24 = omega (arith, c.if-len-lt-MIN_LEN.true) in
-    go m.within m.grew (unknown_short a.addr a.file.now (held a.w a.visited.now a.blocks.now a.links.now) n _ m.says l)
-
-pub returns-then-len-addr : goal.returns-then-len-addr
-returns-then-len-addr c =
-    let a = c.args in
-    let n = seen_is a.w a.visited.now a.blocks.now a.links.now a.addr _ false c.seen.ensures c.if-seen.false in
-    let m = on c.in-On.is (c.visit-r.ensures UD a.file.now a.blocks.now a.links.now c.requires) in
-    let l : length a.file.now < a.addr + 24 = omega (arith, c.if-len-addr.true, c.if-len-lt-MIN_LEN.false) in
-    go m.within m.grew (unknown_short a.addr a.file.now (held a.w a.visited.now a.blocks.now a.links.now) n _ m.says l)
-
-pub list_header-requires : goal.list_header-requires
-list_header-requires c =
-    let a = c.args in
-    counted (on c.in-On.is (c.visit-r.ensures UD a.file.now a.blocks.now a.links.now c.requires)).within
+    let n : ℕ = length c.mark.new.self.file.now in
+    let short : n < c.args.addr + 24 = elim c.then-len-lt-MIN_LEN.branch [
+      | then-len-lt-MIN_LEN-via-then-len-lt-MIN_LEN w ↦ omega arith
+      | then-len-lt-MIN_LEN-via-else-len-lt-MIN_LEN+then-len-addr w ↦ omega arith
+    ] in
+    once_new UD _ _ _ c.if-not-branch.false (c.in_ok-mark.ensures UD) (measured _ (no _ (lt-leb (c.args.addr + 24) n short) (done refl)))
 
 pub returns : goal.returns
+unfolding record_unknown_block list_header
 returns c =
-    let a = c.args in
-    let n = seen_is a.w a.visited.now a.blocks.now a.links.now a.addr _ false c.seen.ensures c.if-seen.false in
-    let m = on c.in-On.is (c.visit-r.ensures UD a.file.now a.blocks.now a.links.now c.requires) in
-    let l : a.addr + 24 ≤ length a.file.now = omega (arith, c.if-len-addr.false, c.if-len-lt-MIN_LEN.false) in
-    last (c.list_header.ensures UD (no_records 0) _ data_unknown m.within) m.grew
-    (unknown_on a.addr a.file.now (held a.w a.visited.now a.blocks.now a.links.now) n _ m.says l)
+    once_new UD _ _ _ c.if-not-branch.false (c.in_ok-mark.ensures UD)
+    (measured _
+    (yes _ (le-leb (c.args.addr + 24) (length c.mark.new.self.file.now) (omega arith))
+    (c.list_header.ensures (no_records 0) (data_unknown _ c.default.ensures))))

@@ -1,61 +1,43 @@
--- `walk_text_like` meets its contract: null, seen, not marked, past u64, too short, or entered.
-use mathlib.Core.Path.{refl, ◌∙◌}
-use native.Mathlib.Omega.{arith}
+-- `walk_text_like` meets its contract: null, seen, refused by the visited table, past u64, too short, refused, or listed.
+use Rattle.std.proofs.Common.{arith}
 use Rattle.mdf4.specs.Act.{UT}
+use Rattle.mdf4.specs.Kinds.{no_records}
 use Rattle.mdf4.specs.Walk.{walk_text_like}
-use Rattle.walk_state.proofs.Start.{counted}
-use Rattle.walk_state.proofs.Steps.{on, off, go, stop, last}
-use Rattle.walk_blocks.proofs.Entering.{seen_is}
-use Rattle.walk_blocks.proofs.Walking.{link_null, link_seen, link_off, link_on, text_past, text_short, text_there}
+use Rattle.walk_state.proofs.Steps.{handed}
+use Rattle.walk_blocks.proofs.Walking.{link_null, link_halt, link_old, link_new, text_past, text_short, text_refused, text_listed}
 use Rattle.walk_blocks.proofs.texts.walk_text_like.Goals as goal
 
 pub returns-then-addr-eq0 : goal.returns-then-addr-eq0
 unfolding walk_text_like
-returns-then-addr-eq0 c =
-    let a = c.args in
-    go c.requires (omega arith) (link_null UT a.addr _ a.file.now _ c.if-addr-eq0.true)
+returns-then-addr-eq0 c = link_null UT _ _ c.if-addr-eq0.true
 
-pub returns-then-seen : goal.returns-then-seen
+pub returns-in_err-mark : goal.returns-in_err-mark
 unfolding walk_text_like
-returns-then-seen c =
-    let a = c.args in
-    let s = seen_is a.w a.visited.now a.blocks.now a.links.now a.addr _ _ c.seen.ensures c.if-seen.true in
-    go c.requires (omega arith) (link_seen UT a.addr _ a.file.now _ c.if-addr-eq0.false s)
+returns-in_err-mark c = handed _ c.from_residual.ensures.1 (link_halt UT _ _ c.if-addr-eq0.false (c.in_err-mark.ensures UT))
+
+pub returns-then-not-branch : goal.returns-then-not-branch
+unfolding walk_text_like
+returns-then-not-branch c = link_old UT _ _ c.if-addr-eq0.false c.if-not-branch.true (c.in_ok-mark.ensures UT)
 
 pub returns-in_default : goal.returns-in_default
 unfolding walk_text_like
 returns-in_default c =
-    let a = c.args in
-    let s = seen_is a.w a.visited.now a.blocks.now a.links.now a.addr _ _ c.seen.ensures c.if-seen.false in
-    let e = c.in_default.is in
-    stop e (link_off UT a.addr _ a.file.now _ c.if-addr-eq0.false s _ (off e (c.visit-r.ensures UT a.file.now a.blocks.now a.links.now c.requires)))
+    link_new UT _ _ c.if-addr-eq0.false c.if-not-branch.false (c.in_ok-mark.ensures UT) (text_past c.args.addr (grind arith))
 
-pub returns-then-addr : goal.returns-then-addr
+pub returns-then-walker-end : goal.returns-then-walker-end
 unfolding walk_text_like
-returns-then-addr c =
-    let a = c.args in
-    let s = seen_is a.w a.visited.now a.blocks.now a.links.now a.addr _ _ c.seen.ensures c.if-seen.false in
-    let m = on c.in-On.is (c.visit-r.ensures UT a.file.now a.blocks.now a.links.now c.requires) in
-    stop refl (link_on UT a.addr _ a.file.now _ c.if-addr-eq0.false s _ m.says ∙ text_past a.addr a.file.now _ (omega (arith, c.if-addr.true)))
+returns-then-walker-end c =
+    link_new UT _ _ c.if-addr-eq0.false c.if-not-branch.false (c.in_ok-mark.ensures UT) (text_short c.args.addr (grind arith) (grind arith))
 
-pub returns-then-file-addr : goal.returns-then-file-addr
+pub returns-in_err-block : goal.returns-in_err-block
 unfolding walk_text_like
-returns-then-file-addr c =
-    let a = c.args in
-    let s = seen_is a.w a.visited.now a.blocks.now a.links.now a.addr _ _ c.seen.ensures c.if-seen.false in
-    let m = on c.in-On.is (c.visit-r.ensures UT a.file.now a.blocks.now a.links.now c.requires) in
-    go m.within m.grew (link_on UT a.addr _ a.file.now _ c.if-addr-eq0.false s _ m.says ∙ text_short a.addr a.file.now _ (omega (arith, c.if-addr.false)) (omega (arith, c.if-file-addr.true)))
-
-pub enter_text-requires : goal.enter_text-requires
-enter_text-requires c =
-    let a = c.args in
-    let m = on c.in-On.is (c.visit-r.ensures UT a.file.now a.blocks.now a.links.now c.requires) in
-    (counted m.within, omega (arith, c.if-file-addr.false))
+returns-in_err-block c =
+    link_new UT _ _ c.if-addr-eq0.false c.if-not-branch.false (c.in_ok-mark.ensures UT)
+    (handed _ c.from_residual-in_err-block.ensures.1 (text_refused c.args.addr (grind arith) (grind arith) c.in_err-block.ensures.refused))
 
 pub returns : goal.returns
 unfolding walk_text_like
 returns c =
-    let a = c.args in
-    let s = seen_is a.w a.visited.now a.blocks.now a.links.now a.addr _ _ c.seen.ensures c.if-seen.false in
-    let m = on c.in-On.is (c.visit-r.ensures UT a.file.now a.blocks.now a.links.now c.requires) in
-    last (c.enter_text.ensures c.visit-r.new.visited m.within) m.grew (link_on UT a.addr _ a.file.now _ c.if-addr-eq0.false s _ m.says ∙ text_there a.addr a.file.now _ (omega (arith, c.if-addr.false)) (omega (arith, c.if-file-addr.false)))
+    let f = c.in_ok-block.ensures.read in
+    link_new UT _ _ c.if-addr-eq0.false c.if-not-branch.false (c.in_ok-mark.ensures UT)
+    (text_listed c.args.addr (grind arith) (grind arith) f (c.list_block.ensures (no_records 0) f.own f.tells))

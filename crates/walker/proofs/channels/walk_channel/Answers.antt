@@ -1,33 +1,23 @@
--- `walk_channel` meets its contract: seen, not marked, or entered.
-use native.Mathlib.Omega.{arith}
+-- `walk_channel` meets its contract: visited before, no room, or entered.
+use mathlib.Core.Path.{refl}
 use Rattle.mdf4.specs.Act.{CN}
-use Rattle.walk_state.proofs.Steps.{on, off}
-use Rattle.walk_blocks.proofs.Entering.{seen_is}
-use Rattle.walker.proofs.ChannelSteps.{channel_seen, channel_full, channel_new}
-use Rattle.walker.proofs.Nexts.{next_to, next_stop, next_last}
+use Rattle.mdf4.specs.Walk.{walk_channel}
+use Rattle.walk_state.proofs.Steps.{handed, once_halt, once_old, once_new}
+use Rattle.walker.specs.Channels.{enter_channel}
+use Rattle.walker.proofs.Entering.{behind}
 use Rattle.walker.proofs.channels.walk_channel.Goals as goal
 
-pub returns-then-seen : goal.returns-then-seen
-returns-then-seen c =
-    let a = c.args in
-    let s = seen_is a.w a.visited.now a.blocks.now a.links.now a.addr _ _ c.seen.ensures c.if-seen.true in
-    next_to c.requires (omega arith) (channel_seen a.addr a.file.now _ s)
+pub returns-in_err-mark : goal.returns-in_err-mark
+unfolding walk_channel enter_channel
+returns-in_err-mark c = handed _ c.from_residual.ensures.1 (once_halt CN _ _ _ (c.in_err-mark.ensures CN))
 
-pub returns-in_default : goal.returns-in_default
-returns-in_default c =
-    let a = c.args in
-    let s = seen_is a.w a.visited.now a.blocks.now a.links.now a.addr _ _ c.seen.ensures c.if-seen.false in
-    let e = c.in_default.is in
-    next_stop (rw e at c.to_next.ensures) (channel_full a.addr a.file.now _ s _ (off e (c.visit-r.ensures CN a.file.now a.blocks.now a.links.now c.requires)))
-
-pub enter_channel-requires : goal.enter_channel-requires
-enter_channel-requires c =
-    let a = c.args in
-    (on c.in-On.is (c.visit-r.ensures CN a.file.now a.blocks.now a.links.now c.requires)).within
+pub returns-then-not-branch : goal.returns-then-not-branch
+unfolding walk_channel enter_channel
+returns-then-not-branch c =
+    once_old CN _ _ _ c.if-not-branch.true (c.in_ok-mark.ensures CN) refl
 
 pub returns : goal.returns
+unfolding walk_channel enter_channel
 returns c =
-    let a = c.args in
-    let s = seen_is a.w a.visited.now a.blocks.now a.links.now a.addr _ _ c.seen.ensures c.if-seen.false in
-    let m = on c.in-On.is (c.visit-r.ensures CN a.file.now a.blocks.now a.links.now c.requires) in
-    next_last c.enter_channel.ensures m.grew (channel_new a.addr a.file.now _ s _ m.says)
+    let d = c.in_ok-mark.ensures CN in
+    once_new CN _ _ _ c.if-not-branch.false d c.enter_channel.ensures

@@ -7,7 +7,7 @@ abbrev pub step : Step (Unit {0})
 step = walk_data_group
 
 abbrev pub invariant-loop-addr : goal.invariant-loop-addr
-invariant-loop-addr l = Going step l.file l.first tt l.initial.on l.initial.visited l.initial.blocks l.initial.links l.addr tt l.on l.visited l.blocks l.links
+invariant-loop-addr l = Going step l.first tt l.initial.walker l.addr tt l.walker
 
 abbrev pub decreases-loop-addr : goal.decreases-loop-addr
-decreases-loop-addr l = left l.addr l.on l.visited
+decreases-loop-addr l = left l.addr l.walker

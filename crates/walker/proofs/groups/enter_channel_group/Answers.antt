@@ -1,35 +1,38 @@
--- `enter_channel_group` meets its contract: the parser's refusal, the row's, or the answer of its links with its layout.
-use Rattle.blocks.specs.ChannelGroupBlock.{channel_group_block_read}
-use Rattle.blocks.proofs.Told.{told_as}
-use Rattle.walk_state.proofs.Steps.{on, off}
-use Rattle.walker.proofs.Grouping.{group_read, group_unread, group_unlisted, group_last, grouped_stop, grouped_met, grouped_last}
+-- `enter_channel_group` meets its contract: the first refusal, or the next address and the record layout.
+use native.Mathlib.Omega.{arith}
+use Rattle.walk_state.proofs.Steps.{handed, then, next, halt, halt_next, done}
+use Rattle.walker.proofs.GroupSteps.{group_entered}
 use Rattle.walker.proofs.groups.enter_channel_group.Goals as goal
 
-pub returns-in_default : goal.returns-in_default
-returns-in_default c fuel got h =
-    let a = c.args in
-    let e = c.in_default.is in
-    grouped_stop (rw e at c.no_channel_group.ensures) (group_unread fuel a.record_id_len a.addr got a.file.now _ (told_as channel_group_block_read e c.parse-read.ensures))
+pub returns-in_err-group : goal.returns-in_err-group
+returns-in_err-group c fuel got h = group_entered fuel _ got _ (handed _ c.from_residual.ensures.1 (halt _ c.in_err-group.ensures))
 
-pub returns-in_default-r1 : goal.returns-in_default-r1
-returns-in_default-r1 c fuel got h =
-    let a = c.args in
-    let g = group_read a.file.now a.addr (told_as channel_group_block_read c.in-Block.is c.parse-read.ensures) in
-    let d = c.list_channel_group-r1.ensures g.0 a.visited.now g.1 c.requires in
-    let e = c.in_default-r1.is in
-    grouped_stop (rw e at c.to_grouped.ensures) (group_unlisted fuel a.record_id_len a.addr got a.file.now _ (off e d))
+pub returns-in_err-walk_text_like : goal.returns-in_err-walk_text_like
+returns-in_err-walk_text_like c fuel got h =
+    handed _ c.from_residual-in_err-walk_text_like.ensures.1
+    (group_entered fuel _ got _ (then _ c.in_ok-group.ensures (halt_next _ (halt_next _ (halt_next _ (halt_next _ c.in_err-walk_text_like.ensures))))))
 
-pub walk_channel_group_links-r2-requires : goal.walk_channel_group_links-r2-requires
-walk_channel_group_links-r2-requires c =
-    let a = c.args in
-    let g = group_read a.file.now a.addr (told_as channel_group_block_read c.in-Block.is c.parse-read.ensures) in
-    (on c.in-On.is (c.list_channel_group-r1.ensures g.0 a.visited.now g.1 c.requires)).within
+pub returns-in_err-walk_source : goal.returns-in_err-walk_source
+returns-in_err-walk_source c fuel got h =
+    handed _ c.from_residual-in_err-walk_source.ensures.1
+    (group_entered fuel _ got _
+    (then _ c.in_ok-group.ensures (halt_next _ (halt_next _ (halt_next _ (next c.in_ok-walk_text_like.ensures c.in_err-walk_source.ensures))))))
+
+pub returns-in_err-walk_text_like-2 : goal.returns-in_err-walk_text_like-2
+returns-in_err-walk_text_like-2 c fuel got h =
+    handed _ c.from_residual-in_err-walk_text_like-2.ensures.1
+    (group_entered fuel _ got _
+    (then _ c.in_ok-group.ensures
+    (halt_next _ (halt_next _ (next (next c.in_ok-walk_text_like.ensures c.in_ok-walk_source.ensures) c.in_err-walk_text_like-2.ensures)))))
+
+pub returns-in_err-walk_channels : goal.returns-in_err-walk_channels
+returns-in_err-walk_channels c fuel got h =
+    let m = next (next c.in_ok-walk_text_like.ensures c.in_ok-walk_source.ensures) c.in_ok-walk_text_like-2.ensures in
+    let d = c.in_err-walk_channels.ensures fuel (omega (arith, c.in_ok-group.ensures.keeps.visited_long, m.keeps.visited_long)) in
+    handed _ c.from_residual-in_err-walk_channels.ensures.1 (group_entered fuel _ got _ (then _ c.in_ok-group.ensures (halt_next _ (next m d))))
 
 pub returns : goal.returns
 returns c fuel got h =
-    let a = c.args in
-    let g = group_read a.file.now a.addr (told_as channel_group_block_read c.in-Block.is c.parse-read.ensures) in
-    let m = on c.in-On.is (c.list_channel_group-r1.ensures g.0 a.visited.now g.1 c.requires) in
-    rw c.to_grouped-2.ensures
-    (grouped_last (grouped_met _ _ _ _ (c.walk_channel_group_links-r2.ensures fuel h)) m.grew
-    (group_last fuel a.record_id_len a.addr got a.file.now _ _ g.0 g.1 _ m.says _ _ c.record_size-size.ensures c.wide.ensures))
+    let m = next (next c.in_ok-walk_text_like.ensures c.in_ok-walk_source.ensures) c.in_ok-walk_text_like-2.ensures in
+    let d = c.in_ok-walk_channels.ensures fuel (omega (arith, c.in_ok-group.ensures.keeps.visited_long, m.keeps.visited_long)) in
+    group_entered fuel _ got _ (then _ c.in_ok-group.ensures (next (next m d) (done (rw c.group_layout.ensures))))

@@ -1,38 +1,18 @@
--- `enter_header` meets its contract: the parser's refusal, the row's refusal, or the answer of what its links lead to.
-use Rattle.mdf4.specs.Act.{HD}
-use Rattle.mdf4.specs.Kinds.{no_records}
-use Rattle.blocks.specs.HeaderBlock.{header_block_read}
-use Rattle.blocks.proofs.Told.{told_as}
-use Rattle.walk_state.proofs.Steps.{on, off, stop, last}
-use Rattle.walker.proofs.HeaderWalk.{header_refused, header_told, header_tells, header_off, header_on}
+-- `enter_header` meets its contract: the first refusal, or the answer of the data groups.
+use Rattle.std.proofs.Common.{arith}
+use Rattle.walk_state.proofs.Steps.{handed, then, next, halt, halt_next}
+use Rattle.walker.proofs.HeaderSteps.{header_entered}
 use Rattle.walker.proofs.header.enter_header.Goals as goal
 
-pub returns-in_default : goal.returns-in_default
-returns-in_default c fuel h =
-    let a = c.args in
-    let e = c.in_default.is in
-    stop (rw e at c.no_header.ensures) (header_refused fuel a.file.now _ (told_as header_block_read e c.parse-read.ensures))
+pub returns-in_err-header : goal.returns-in_err-header
+returns-in_err-header c fuel h = header_entered fuel (handed _ c.from_residual.ensures.1 (halt _ c.in_err-header.ensures))
 
-pub returns-in_default-r : goal.returns-in_default-r
-returns-in_default-r c fuel h =
-    let a = c.args in
-    let t = header_told a.file.now (told_as header_block_read c.in-Block.is c.parse-read.ensures) in
-    let f = rw c.plain_block-block.ensures at c.list_block-r.ensures in
-    let d = f HD (no_records 0) t.own a.visited.now (header_tells a.file.now _ t) c.requires in
-    let e = c.in_default-r.is in
-    stop e (header_off a.file.now _ t fuel _ _ (off e d))
-
-pub walk_header_links-requires : goal.walk_header_links-requires
-walk_header_links-requires c =
-    let a = c.args in
-    let t = header_told a.file.now (told_as header_block_read c.in-Block.is c.parse-read.ensures) in
-    let f = rw c.plain_block-block.ensures at c.list_block-r.ensures in
-    (on c.in-On.is (f HD (no_records 0) t.own a.visited.now (header_tells a.file.now _ t) c.requires)).within
+pub returns-in_err-walk_text_like : goal.returns-in_err-walk_text_like
+returns-in_err-walk_text_like c fuel h =
+    handed _ c.from_residual-in_err-walk_text_like.ensures.1 (header_entered fuel (then _ c.in_ok-header.ensures (halt_next _ c.in_err-walk_text_like.ensures)))
 
 pub returns : goal.returns
 returns c fuel h =
-    let a = c.args in
-    let t = header_told a.file.now (told_as header_block_read c.in-Block.is c.parse-read.ensures) in
-    let f = rw c.plain_block-block.ensures at c.list_block-r.ensures in
-    let m = on c.in-On.is (f HD (no_records 0) t.own a.visited.now (header_tells a.file.now _ t) c.requires) in
-    last (c.walk_header_links.ensures fuel h) m.grew (header_on a.file.now _ t fuel _ _ m.says)
+    let m = c.in_ok-walk_text_like.ensures in
+    let d = c.walk_data_groups.ensures fuel (omega (arith, c.in_ok-header.ensures.keeps.visited_long, m.keeps.visited_long)) in
+    header_entered fuel (then _ c.in_ok-header.ensures (next m d))

@@ -1,21 +1,15 @@
--- `enter_identification` meets its contract: the parser's refusal, or the row of the identification.
-use native.Mathlib.Omega.{arith}
-use Rattle.mdf4.specs.Act.{ID}
-use Rattle.walk_state.proofs.Steps.{stop, last}
-use Rattle.walker.proofs.HeaderWalk.{id_refused, id_told}
+-- `enter_identification` meets its contract: it is not read, or the answer of its listing.
+use mathlib.Core.Path.{refl}
+use Rattle.mdf4.specs.Kinds.{no_records}
+use Rattle.walk_state.proofs.Steps.{handed, dropped}
+use Rattle.walk_blocks.proofs.Entering.{found_enters}
+use Rattle.walker.proofs.HeaderSteps.{id_refused, id_found}
 use Rattle.walker.proofs.header.enter_identification.Goals as goal
 
-pub returns-in_default : goal.returns-in_default
-returns-in_default c v i =
-    let a = c.args in
-    let e = c.in_default.is in
-    let p = rw e at c.parse-read.ensures in
-    stop (rw e at c.no_identification.ensures) (id_refused a.file.now _ p.says)
+pub returns-in_err-parse : goal.returns-in_err-parse
+returns-in_err-parse c = handed _ c.from_residual.ensures.1 (dropped _ (λ u. refl) (id_refused c.in_err-parse.ensures.says))
 
 pub returns : goal.returns
-returns c v i =
-    let a = c.args in
-    let p = rw c.in-Block.is at c.parse-read.ensures in
-    let t = id_told a.file.now p.says in
-    let f = rw c.plain_block-block.ensures at c.list_plain.ensures in
-    last (f ID t.own v t.tells i) (omega arith) (t.enters _)
+returns c =
+    let y = id_found _ c.in_ok-parse.ensures.says c.plain-block.ensures in
+    dropped _ (λ u. refl) (found_enters y (c.list_block.ensures (no_records 0) y.own y.tells))

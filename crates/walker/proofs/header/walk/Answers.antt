@@ -1,21 +1,20 @@
 -- `walk` meets its contract: the identification's refusal, or the header's answer.
-use native.Mathlib.Omega.{arith}
-use lib.ListN.{length}
-use Rattle.walk_state.proofs.Steps.{on, off, stop, last}
-use Rattle.walker.proofs.HeaderWalk.{walk_off, walk_on}
+use Rattle.std.proofs.Common.{refl, arith, length}
+use Rattle.mdf4.specs.Act.{◌>>◌}
+use Rattle.mdf4.specs.Walk.{walk_identification, walk_header, walk}
+use Rattle.walk_state.specs.Within.{held}
+use Rattle.walk_state.proofs.Steps.{handed, next, halt_next, alike}
 use Rattle.walker.proofs.header.walk.Goals as goal
 
-pub returns-in_default : goal.returns-in_default
-returns-in_default c =
-    let a = c.args in
-    let e = c.in_default.is in
-    stop e (walk_off a.file.now a.w a.visited.now a.blocks.now a.links.now _ (off e c.walk_identification-r.ensures))
-
-pub walk_header-requires : goal.walk_header-requires
-walk_header-requires c = (on c.in-On.is c.walk_identification-r.ensures).within
+pub returns-in_err-walk_identification : goal.returns-in_err-walk_identification
+unfolding walk held
+returns-in_err-walk_identification c =
+    handed _ c.from_residual.ensures.1
+    (alike {m = walk_identification >> walk_header (length c.args.walker.now.visited.now)} refl (halt_next _ c.in_err-walk_identification.ensures))
 
 pub returns : goal.returns
+unfolding walk held
 returns c =
-    let a = c.args in
-    let m = on c.in-On.is c.walk_identification-r.ensures in
-    last (c.walk_header.ensures (length a.visited.now) (omega (arith, c.walk_identification-r.auto.visited))) m.grew (walk_on a.file.now a.w a.visited.now a.blocks.now a.links.now _ m.says)
+    let m = c.in_ok-walk_identification.ensures in
+    let d = c.walk_header.ensures (length c.args.walker.now.visited.now) (omega (arith, m.keeps.visited_long)) in
+    alike {m = walk_identification >> walk_header (length c.args.walker.now.visited.now)} refl (next m d)

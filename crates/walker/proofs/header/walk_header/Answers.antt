@@ -1,32 +1,22 @@
--- `walk_header` meets its contract: seen, not marked, or entered.
-use native.Mathlib.Omega.{arith}
+-- `walk_header` meets its contract: visited before, no room, or entered.
+use Rattle.std.proofs.Common.{refl, arith}
 use Rattle.mdf4.specs.Act.{HD}
-use Rattle.walk_state.proofs.Steps.{on, off, go, stop, last}
-use Rattle.walk_blocks.proofs.Entering.{seen_is}
-use Rattle.walker.proofs.HeaderWalk.{header_seen, header_full, header_new}
+use Rattle.mdf4.specs.Walk.{walk_header}
+use Rattle.walk_state.proofs.Steps.{handed, once_halt, once_old, once_new}
+use Rattle.walker.specs.Header.{enter_header}
 use Rattle.walker.proofs.header.walk_header.Goals as goal
 
-pub returns-then-seen : goal.returns-then-seen
-returns-then-seen c fuel h =
-    let a = c.args in
-    let s = seen_is a.w a.visited.now a.blocks.now a.links.now 64 _ _ c.seen.ensures c.if-seen.true in
-    go c.requires (omega arith) (header_seen fuel a.file.now _ s)
+pub returns-in_err-mark : goal.returns-in_err-mark
+unfolding walk_header enter_header
+returns-in_err-mark c fuel h = handed _ c.from_residual.ensures.1 (once_halt HD _ _ _ (c.in_err-mark.ensures HD))
 
-pub returns-in_default : goal.returns-in_default
-returns-in_default c fuel h =
-    let a = c.args in
-    let s = seen_is a.w a.visited.now a.blocks.now a.links.now 64 _ _ c.seen.ensures c.if-seen.false in
-    let e = c.in_default.is in
-    stop e (header_full fuel a.file.now _ s _ (off e (c.visit-r.ensures HD a.file.now a.blocks.now a.links.now c.requires)))
-
-pub enter_header-requires : goal.enter_header-requires
-enter_header-requires c =
-    let a = c.args in
-    (on c.in-On.is (c.visit-r.ensures HD a.file.now a.blocks.now a.links.now c.requires)).within
+pub returns-then-not-branch : goal.returns-then-not-branch
+unfolding walk_header enter_header
+returns-then-not-branch c fuel h =
+    once_old HD _ _ _ c.if-not-branch.true (c.in_ok-mark.ensures HD) refl
 
 pub returns : goal.returns
+unfolding walk_header enter_header
 returns c fuel h =
-    let a = c.args in
-    let s = seen_is a.w a.visited.now a.blocks.now a.links.now 64 _ _ c.seen.ensures c.if-seen.false in
-    let m = on c.in-On.is (c.visit-r.ensures HD a.file.now a.blocks.now a.links.now c.requires) in
-    last (c.enter_header.ensures fuel (omega (arith, h, c.visit-r.auto.visited))) m.grew (header_new fuel a.file.now _ s _ m.says)
+    let d = c.in_ok-mark.ensures HD in
+    once_new HD _ _ _ c.if-not-branch.false d (c.enter_header.ensures fuel (omega (arith, d.keeps.visited_long)))

@@ -1,33 +1,21 @@
--- `walk_identification` meets its contract: seen, not marked, or entered.
-use native.Mathlib.Omega.{arith}
+-- `walk_identification` meets its contract: visited before, no room, or entered.
+use mathlib.Core.Path.{refl}
 use Rattle.mdf4.specs.Act.{ID}
-use Rattle.walk_state.proofs.Start.{counted}
-use Rattle.walk_state.proofs.Steps.{on, off, go, stop, last}
-use Rattle.walk_blocks.proofs.Entering.{seen_is}
-use Rattle.walker.proofs.HeaderWalk.{id_seen, id_off, id_on}
+use Rattle.mdf4.specs.Walk.{walk_identification}
+use Rattle.walk_state.proofs.Steps.{handed, once_halt, once_old, once_new}
 use Rattle.walker.proofs.header.walk_identification.Goals as goal
 
-pub returns-then-seen : goal.returns-then-seen
-returns-then-seen c =
-    let a = c.args in
-    let s = seen_is a.w a.visited.now a.blocks.now a.links.now 0 _ _ c.seen.ensures c.if-seen.true in
-    go c.requires (omega arith) (id_seen a.file.now _ s)
+pub returns-in_err-mark : goal.returns-in_err-mark
+unfolding walk_identification
+returns-in_err-mark c = handed _ c.from_residual.ensures.1 (once_halt ID _ _ _ (c.in_err-mark.ensures ID))
 
-pub returns-in_default : goal.returns-in_default
-returns-in_default c =
-    let a = c.args in
-    let s = seen_is a.w a.visited.now a.blocks.now a.links.now 0 _ _ c.seen.ensures c.if-seen.false in
-    let e = c.in_default.is in
-    stop e (id_off a.file.now _ s _ (off e (c.visit-r.ensures ID a.file.now a.blocks.now a.links.now c.requires)))
-
-pub enter_identification-requires : goal.enter_identification-requires
-enter_identification-requires c =
-    let a = c.args in
-    counted (on c.in-On.is (c.visit-r.ensures ID a.file.now a.blocks.now a.links.now c.requires)).within
+pub returns-then-not-branch : goal.returns-then-not-branch
+unfolding walk_identification
+returns-then-not-branch c =
+    once_old ID _ _ _ c.if-not-branch.true (c.in_ok-mark.ensures ID) refl
 
 pub returns : goal.returns
+unfolding walk_identification
 returns c =
-    let a = c.args in
-    let s = seen_is a.w a.visited.now a.blocks.now a.links.now 0 _ _ c.seen.ensures c.if-seen.false in
-    let m = on c.in-On.is (c.visit-r.ensures ID a.file.now a.blocks.now a.links.now c.requires) in
-    last (c.enter_identification.ensures c.visit-r.new.visited m.within) m.grew (id_on a.file.now _ s _ m.says)
+    let d = c.in_ok-mark.ensures ID in
+    once_new ID _ _ _ c.if-not-branch.false d c.enter_identification.ensures

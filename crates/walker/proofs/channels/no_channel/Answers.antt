@@ -1,8 +1,0 @@
--- `no_channel` meets its contract: the parser's refusal is the channel's.
-use Rattle.walker.proofs.channels.no_channel.Goals as goal
-
-pub returns-in-Block : goal.returns-in-Block
-returns-in-Block c = rw c.in-Block.is
-
-pub returns-in-Refused : goal.returns-in-Refused
-returns-in-Refused c = rw c.in-Refused.is

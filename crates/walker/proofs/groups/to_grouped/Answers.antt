@@ -1,8 +1,0 @@
--- `to_grouped` meets its contract: the walk goes on to the next group, or it refuses.
-use Rattle.walker.proofs.groups.to_grouped.Goals as goal
-
-pub returns-in-On : goal.returns-in-On
-returns-in-On c = rw c.in-On.is
-
-pub returns-in-Refused : goal.returns-in-Refused
-returns-in-Refused c = rw c.in-Refused.is
