@@ -1,8 +1,8 @@
 -- Laws that the proofs of the writers cite.
-pub mod Rows
+pub mod Numbers
+pub mod Own
 pub mod Said
 pub mod Lines
-pub mod Texts
-pub mod Marks
-pub mod Names
 pub mod Written
+pub mod Named
+pub mod Names

@@ -1,3 +1,2 @@
 -- What the descriptions are told.
 pub mod Info
-pub mod Links

@@ -1,24 +1,16 @@
 // The descriptions, one function for each kind.
-ghost use Rattle.std.specs.Prelude.{◌≡◌, ◌+◌, ◌-◌, ◌%◌, ◌≤◌, max, cond, ◌∷◌, [], ◌++◌, eqb, length};
-ghost use Rattle.fmt.specs.Text.{Wrote};
-ghost use Rattle.mdf4.specs.Act.{ID, HD, DG, CG, CN, SI, TX, MD, DT, SD, DL, UT, UD};
-ghost use Rattle.mdf4.specs.Describe.{describe, name_bytes, name_text};
-ghost use Rattle.describe.specs.Info.{row_of, OfKind};
-ghost use Rattle.mdf4.specs.Bytes.{num};
-ghost use Rattle.mdf4.specs.Kinds.{make_link};
-ghost use Rattle.fmt.specs.Text.{ascii};
-ghost use Rattle.fmt.specs.Digits.{dec_signed};
+ghost use Rattle.std.specs.Prelude.{◌≡◌, ◌-◌, ◌%◌, cond, ◌∷◌, [], eqb};
+ghost use Rattle.fmt.specs.Text.{ascii, Writes};
 ghost use Rattle.fmt.specs.Format.{format};
-ghost use Rattle.utf8.specs.Utf8.{lossy};
-ghost use Rattle.std.proofs.Math.Seq.{slice};
-ghost use Rattle.blocks.specs.IdentificationBlock.{Parts};
-ghost use Rattle.mdf4.specs.Describe.{data_type_name};
-ghost use Rattle.describe.specs.Info.{TextInside};
+ghost use Rattle.mdf4.specs.Act.{ID, HD, DG, CG, CN, SI, TX, MD, DT, SD, DL, UT, UD};
+ghost use Rattle.mdf4.specs.Kinds.{make_link};
+ghost use Rattle.mdf4.specs.Describe.{describe, name_bytes, name_text};
+ghost use Rattle.tables.specs.Rows.{row_of};
+ghost use Rattle.describe.specs.Info.{OfKind};
 
-use crate::BlockInfo;
+use crate::fields::fields_of;
 use blocks::channel_block::ChannelBlock;
 use blocks::channel_group_block::ChannelGroupBlock;
-use blocks::common::{BlockHeader, wide};
 use blocks::data_block::DataBlock;
 use blocks::data_group_block::DataGroupBlock;
 use blocks::data_list_block::DataListBlock;
@@ -28,278 +20,187 @@ use blocks::identification_block::IdentificationBlock;
 use blocks::metadata_block::MetadataBlock;
 use blocks::source_block::SourceBlock;
 use blocks::text_block::TextBlock;
-use channel_name::{NameRead, read_text_at};
-use fmt::{lossy_len, put_bytes, put_format, put_i16, put_lossy, put_preview};
-use little_endian::read_u64;
-use utf8::{before_nul, count_chars, trim_nuls};
+use channel_name::read_text_at;
+use fmt::{Page, lossy_len};
+use tables::BlockInfo;
+use utf8::count_chars;
 
 // Characters that a preview shows.
 const PREVIEW: usize = 48;
 
-// A label, and the text that b has from `from` up to `to`.
-fn put_labelled(out: &mut [u8], at: usize, label: &[u8], b: &[u8], from: usize, to: usize) -> usize
-    requires { (from ≤ to) × (to ≤ length b.now) }
-    ensures { Wrote out.old at (label.now ++ lossy (slice from to b.now)) out.new result }
+pub fn describe_identification(page: &mut Page<'_>, file: &[u8], block: &BlockInfo)
+    requires { OfKind ID file.now block.now }
+    ensures { Writes page.old (describe file.now (row_of block.now)) page.new }
 {
-    let a = put_bytes(out, at, label);
-    put_lossy(out, a, b, from, to)
+    let id = IdentificationBlock::fields(&file[block.offset as usize..]);
+    page.put_bytes(b"Identification: version='");
+    page.put_lossy(id.version);
+    page.put_bytes(b"', program='");
+    page.put_lossy(id.program);
+    page.put_bytes(b"'");
 }
 
-// The texts of an identification, which stand in b.
-fn put_identification(out: &mut [u8], at: usize, b: &[u8], id: IdentificationBlock) -> usize
-    requires { Parts b.now id }
-    ensures { Wrote out.old at (ascii "Identification: version='" ++ lossy (slice id.version_from id.version_to b.now) ++ ascii "', program='" ++ lossy (slice 16 id.program_to b.now) ++ ascii "'") out.new result }
+pub fn describe_header(page: &mut Page<'_>, file: &[u8], block: &BlockInfo)
+    requires { OfKind HD file.now block.now }
+    ensures { Writes page.old (describe file.now (row_of block.now)) page.new }
 {
-    let a = put_labelled(
-        out,
-        at,
-        b"Identification: version='",
-        b,
-        id.version_from,
-        id.version_to,
-    );
-    let a = put_labelled(out, a, b"', program='", b, 16, id.program_to);
-    put_bytes(out, a, b"'")
+    let hd: HeaderBlock = fields_of(file, block);
+    page.put_format(b"Header Block (abs_time=% ns, tz=", &[hd.abs_time]);
+    page.put_i16(hd.tz_offset);
+    page.put_bytes(b" min)");
 }
 
-pub fn describe_identification(out: &mut [u8], at: usize, file: &[u8], block: BlockInfo) -> usize
-    requires { OfKind ID file.now block }
-    ensures { Wrote out.old at (describe file.now (row_of block)) out.new result }
+pub fn describe_data_group(page: &mut Page<'_>, file: &[u8], block: &BlockInfo)
+    requires { OfKind DG file.now block.now }
+    ensures { Writes page.old (describe file.now (row_of block.now)) page.new }
 {
-    let offset = block.offset as usize;
-    let b = &file[offset..];
-    let id = IdentificationBlock::fields(b);
-    put_identification(out, at, b, id)
-}
-
-// The text of a header.
-fn put_header(out: &mut [u8], at: usize, abs_time: u64, tz_offset: i16) -> usize
-    ensures { Wrote out.old at (format (ascii "Header Block (abs_time=% ns, tz=") (abs_time ∷ []) ++ dec_signed tz_offset ++ ascii " min)") out.new result }
-{
-    let a = put_format(out, at, b"Header Block (abs_time=% ns, tz=", &[abs_time]);
-    let a = put_i16(out, a, tz_offset);
-    put_bytes(out, a, b" min)")
-}
-
-pub fn describe_header(out: &mut [u8], at: usize, file: &[u8], block: BlockInfo) -> usize
-    requires { OfKind HD file.now block }
-    ensures { Wrote out.old at (describe file.now (row_of block)) out.new result }
-{
-    let offset = block.offset as usize;
-    let hd = HeaderBlock::fields(&file[offset..]);
-    put_header(out, at, hd.abs_time, hd.tz_offset)
-}
-
-pub fn describe_data_group(out: &mut [u8], at: usize, file: &[u8], block: BlockInfo) -> usize
-    requires { OfKind DG file.now block }
-    ensures { Wrote out.old at (describe file.now (row_of block)) out.new result }
-{
-    let offset = block.offset as usize;
-    let dg = DataGroupBlock::fields(&file[offset..]);
-    put_format(
-        out,
-        at,
+    let dg: DataGroupBlock = fields_of(file, block);
+    page.put_format(
         b"Data Group #% (record_id_len=%)",
-        &[block.index, dg.record_id_len as u64],
-    )
+        &[block.index, u64::from(dg.record_id_len)],
+    );
 }
 
-pub fn describe_channel_group(out: &mut [u8], at: usize, file: &[u8], block: BlockInfo) -> usize
-    requires { OfKind CG file.now block }
-    ensures { Wrote out.old at (describe file.now (row_of block)) out.new result }
+pub fn describe_channel_group(page: &mut Page<'_>, file: &[u8], block: &BlockInfo)
+    requires { OfKind CG file.now block.now }
+    ensures { Writes page.old (describe file.now (row_of block.now)) page.new }
 {
-    let offset = block.offset as usize;
-    let cg = ChannelGroupBlock::fields(&file[offset..]);
-    put_format(
-        out,
-        at,
+    let cg: ChannelGroupBlock = fields_of(file, block);
+    page.put_format(
         b"Channel Group #% (cycles=%, record=%B = %B data + %B inval + %B record_id)",
         &[
             block.index,
             cg.cycles_nr,
             block.record_size,
-            wide(cg.samples_byte_nr),
+            u64::from(cg.samples_byte_nr),
             block.invalidation_bytes,
             block.record_id_len,
         ],
-    )
+    );
 }
 
 // The name that a link leads to; where it can't be read it is empty.
-fn put_name(out: &mut [u8], at: usize, file: &[u8], addr: u64) -> usize
-    ensures { Wrote out.old at (name_text (name_bytes file.now (make_link file.now addr))) out.new result }
+fn put_name(page: &mut Page<'_>, file: &[u8], addr: u64)
+    ensures { Writes page.old (name_text (name_bytes file.now (make_link file.now addr))) page.new }
 {
-    match read_text_at(file, addr) {
-        NameRead::Text { from, to } => put_lossy(out, at, file, from, to),
-        NameRead::None => at,
-        NameRead::Refused(e) => at,
+    if let Ok(Some(name)) = read_text_at(file, addr) {
+        page.put_lossy(name);
     }
 }
 
-// What is said of a channel behind its name.
-fn put_channel(out: &mut [u8], at: usize, cn: ChannelBlock) -> usize
-    ensures { Wrote out.old at (format (ascii "' (ch_type=%, sync=%, dtype=") (cn.channel_type ∷ cn.sync_type ∷ []) ++ data_type_name cn.data_type ++ format (ascii ", %b @ byte=% bit=%)") (cn.bit_count ∷ cn.byte_offset ∷ cn.bit_offset ∷ [])) out.new result }
+pub fn describe_channel(page: &mut Page<'_>, file: &[u8], block: &BlockInfo)
+    requires { OfKind CN file.now block.now }
+    ensures { Writes page.old (describe file.now (row_of block.now)) page.new }
 {
-    let a = put_format(
-        out,
-        at,
+    let cn: ChannelBlock = fields_of(file, block);
+    page.put_format(b"Channel #% '", &[block.index]);
+    put_name(page, file, cn.name_addr);
+    page.put_format(
         b"' (ch_type=%, sync=%, dtype=",
-        &[cn.channel_type as u64, cn.sync_type as u64],
+        &[u64::from(cn.channel_type), u64::from(cn.sync_type)],
     );
-    let a = put_data_type(out, a, cn.data_type);
-    put_format(
-        out,
-        a,
+    put_data_type(page, cn.data_type);
+    page.put_format(
         b", %b @ byte=% bit=%)",
         &[
-            wide(cn.bit_count),
-            wide(cn.byte_offset),
-            cn.bit_offset as u64,
+            u64::from(cn.bit_count),
+            u64::from(cn.byte_offset),
+            u64::from(cn.bit_offset),
         ],
-    )
-}
-
-pub fn describe_channel(out: &mut [u8], at: usize, file: &[u8], block: BlockInfo) -> usize
-    requires { OfKind CN file.now block }
-    ensures { Wrote out.old at (describe file.now (row_of block)) out.new result }
-{
-    let offset = block.offset as usize;
-    let cn = ChannelBlock::fields(&file[offset..]);
-    let a = put_format(out, at, b"Channel #% '", &[block.index]);
-    let a = put_name(out, a, file, cn.name_addr);
-    put_channel(out, a, cn)
-}
-
-pub fn describe_source(out: &mut [u8], at: usize, file: &[u8], block: BlockInfo) -> usize
-    requires { OfKind SI file.now block }
-    ensures { Wrote out.old at (describe file.now (row_of block)) out.new result }
-{
-    let offset = block.offset as usize;
-    let si = SourceBlock::fields(&file[offset..]);
-    put_format(
-        out,
-        at,
-        b"Source (type=%, bus_type=%, flags=0x&)",
-        &[si.source_type as u64, si.bus_type as u64, si.flags as u64],
-    )
-}
-
-// Where the text of the block at `offset` ends: at its block_len, 24 at the least.
-fn text_end(file: &[u8], offset: usize) -> usize
-    requires { TextInside file.now offset }
-    ensures { result ≡ offset + max 24 (num file.now (offset + 8) 8) }
-{
-    let block_len = read_u64(file, offset + 8);
-    if block_len < BlockHeader::LEN {
-        return offset + BlockHeader::LEN as usize;
-    }
-    offset + block_len as usize
-}
-
-pub fn describe_text(out: &mut [u8], at: usize, file: &[u8], block: BlockInfo) -> usize
-    requires { OfKind TX file.now block }
-    ensures { Wrote out.old at (describe file.now (row_of block)) out.new result }
-{
-    let offset = block.offset as usize;
-    let from = offset + TextBlock::MIN_LEN as usize;
-    let to = before_nul(file, from, text_end(file, offset));
-    let a = put_bytes(out, at, b"Text: \"");
-    let a = put_preview(out, a, file, from, to, PREVIEW, false);
-    put_format(
-        out,
-        a,
-        b"\" (% chars)",
-        &[count_chars(file, from, to) as u64],
-    )
-}
-
-pub fn describe_metadata(out: &mut [u8], at: usize, file: &[u8], block: BlockInfo) -> usize
-    requires { OfKind MD file.now block }
-    ensures { Wrote out.old at (describe file.now (row_of block)) out.new result }
-{
-    let offset = block.offset as usize;
-    let from = offset + MetadataBlock::MIN_LEN as usize;
-    let xml = trim_nuls(file, from, text_end(file, offset));
-    let a = put_format(
-        out,
-        at,
-        b"Metadata (XML, % chars): ",
-        &[lossy_len(file, xml.from, xml.to)],
     );
-    put_preview(out, a, file, xml.from, xml.to, PREVIEW, true)
+}
+
+pub fn describe_source(page: &mut Page<'_>, file: &[u8], block: &BlockInfo)
+    requires { OfKind SI file.now block.now }
+    ensures { Writes page.old (describe file.now (row_of block.now)) page.new }
+{
+    let si: SourceBlock = fields_of(file, block);
+    page.put_format(
+        b"Source (type=%, bus_type=%, flags=0x&)",
+        &[
+            u64::from(si.source_type),
+            u64::from(si.bus_type),
+            u64::from(si.flags),
+        ],
+    );
+}
+
+pub fn describe_text(page: &mut Page<'_>, file: &[u8], block: &BlockInfo)
+    requires { OfKind TX file.now block.now }
+    ensures { Writes page.old (describe file.now (row_of block.now)) page.new }
+{
+    let Ok(tx) = TextBlock::parse(file, block.offset) else {
+        unreachable!()
+    };
+    page.put_bytes(b"Text: \"");
+    page.put_preview(tx.text, PREVIEW, false);
+    page.put_format(b"\" (% chars)", &[count_chars(tx.text) as u64]);
+}
+
+pub fn describe_metadata(page: &mut Page<'_>, file: &[u8], block: &BlockInfo)
+    requires { OfKind MD file.now block.now }
+    ensures { Writes page.old (describe file.now (row_of block.now)) page.new }
+{
+    let Ok(md) = MetadataBlock::parse(file, block.offset) else {
+        unreachable!()
+    };
+    page.put_format(b"Metadata (XML, % chars): ", &[lossy_len(md.xml)]);
+    page.put_preview(md.xml, PREVIEW, true);
 }
 
 // The bytes behind a data block's header.
-pub fn payload(size: u64) -> u64
-    ensures { result ≡ size - 24 }
+pub fn payload_len(block: &BlockInfo) -> u64
+    ensures { result ≡ block.now.size - 24 }
 {
-    if size < DataBlock::MIN_LEN {
-        0
-    } else {
-        size - DataBlock::MIN_LEN
-    }
+    block.size.saturating_sub(DataBlock::MIN_LEN)
 }
 
-pub fn describe_data(out: &mut [u8], at: usize, file: &[u8], block: BlockInfo) -> usize
-    requires { OfKind DT file.now block }
-    ensures { Wrote out.old at (describe file.now (row_of block)) out.new result }
+pub fn describe_data(page: &mut Page<'_>, file: &[u8], block: &BlockInfo)
+    requires { OfKind DT file.now block.now }
+    ensures { Writes page.old (describe file.now (row_of block.now)) page.new }
 {
-    put_format(
-        out,
-        at,
-        b"Data block (% payload bytes)",
-        &[payload(block.size)],
-    )
+    page.put_format(b"Data block (% payload bytes)", &[payload_len(block)]);
 }
 
-pub fn describe_signal_data(out: &mut [u8], at: usize, file: &[u8], block: BlockInfo) -> usize
-    requires { OfKind SD file.now block }
-    ensures { Wrote out.old at (describe file.now (row_of block)) out.new result }
+pub fn describe_signal_data(page: &mut Page<'_>, file: &[u8], block: &BlockInfo)
+    requires { OfKind SD file.now block.now }
+    ensures { Writes page.old (describe file.now (row_of block.now)) page.new }
 {
-    put_format(
-        out,
-        at,
+    page.put_format(
         b"Signal data (VLSD stream, % payload bytes)",
-        &[payload(block.size)],
-    )
+        &[payload_len(block)],
+    );
 }
 
 // A data list's fragment length, where they are all equal.
-fn put_equal_length(out: &mut [u8], at: usize, flags: u8, data_block_len: u64) -> usize
-    ensures { Wrote out.old at (cond (eqb (flags % 2) 1) (format (ascii ", equal_length=%B") (data_block_len ∷ [])) []) out.new result }
+fn put_equal_length(page: &mut Page<'_>, dl: &DataListBlock)
+    ensures { Writes page.old (cond (eqb (dl.now.flags % 2) 1) (format (ascii ", equal_length=%B") (dl.now.data_block_len ∷ [])) []) page.new }
 {
-    if flags % 2 == 1 {
-        return put_format(out, at, b", equal_length=%B", &[data_block_len]);
+    if dl.flags % 2 == 1 {
+        page.put_format(b", equal_length=%B", &[dl.data_block_len]);
     }
-    at
 }
 
-pub fn describe_data_list(out: &mut [u8], at: usize, file: &[u8], block: BlockInfo) -> usize
-    requires { OfKind DL file.now block }
-    ensures { Wrote out.old at (describe file.now (row_of block)) out.new result }
+pub fn describe_data_list(page: &mut Page<'_>, file: &[u8], block: &BlockInfo)
+    requires { OfKind DL file.now block.now }
+    ensures { Writes page.old (describe file.now (row_of block.now)) page.new }
 {
-    let offset = block.offset as usize;
-    let dl = DataListBlock::fields(&file[offset..]);
-    let a = put_format(
-        out,
-        at,
-        b"Data List (% fragments",
-        &[wide(dl.data_block_nr)],
-    );
-    let a = put_equal_length(out, a, dl.flags, dl.data_block_len);
-    put_bytes(out, a, b")")
+    let dl: DataListBlock = fields_of(file, block);
+    page.put_format(b"Data List (% fragments", &[u64::from(dl.data_block_nr)]);
+    put_equal_length(page, &dl);
+    page.put_bytes(b")");
 }
 
-pub fn describe_unknown(out: &mut [u8], at: usize, file: &[u8], block: BlockInfo) -> usize
-    requires { OfKind UT file.now block }
-    ensures { Wrote out.old at (describe file.now (row_of block)) out.new result }
+pub fn describe_unknown(page: &mut Page<'_>, file: &[u8], block: &BlockInfo)
+    requires { OfKind UT file.now block.now }
+    ensures { Writes page.old (describe file.now (row_of block.now)) page.new }
 {
-    put_bytes(out, at, b"Unknown block (not walked further)")
+    page.put_bytes(b"Unknown block (not walked further)");
 }
 
-pub fn describe_unknown_data(out: &mut [u8], at: usize, file: &[u8], block: BlockInfo) -> usize
-    requires { OfKind UD file.now block }
-    ensures { Wrote out.old at (describe file.now (row_of block)) out.new result }
+pub fn describe_unknown_data(page: &mut Page<'_>, file: &[u8], block: &BlockInfo)
+    requires { OfKind UD file.now block.now }
+    ensures { Writes page.old (describe file.now (row_of block.now)) page.new }
 {
-    put_bytes(out, at, b"Unknown data block")
+    page.put_bytes(b"Unknown data block");
 }

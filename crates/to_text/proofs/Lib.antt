@@ -1,2 +1,2 @@
--- Laws behind the functions' proofs.
+-- Laws that the proofs of the listing cite.
 pub mod Lines

@@ -1,210 +1,154 @@
 // The listing of a layout that stands in the tables: the Rust's `to_text`.
 #![tactic(auto)]
 
-ghost use Rattle.std.specs.Prelude.{◌≡◌, ℕ, ◌+◌, ◌-◌, ◌*◌, ◌≤◌, ◌<◌, length, take, drop};
-ghost use Rattle.fmt.specs.Text.{Wrote};
+ghost use Rattle.std.specs.Prelude.{◌≡◌, ℕ, ◌+◌, ◌*◌, ◌≤◌, ◌<◌, length, map};
+ghost use Rattle.fmt.specs.Text.{Wrote, Writes};
 ghost use Rattle.mdf4.specs.Bytes.{concat_map};
 ghost use Rattle.mdf4.specs.Layout.{Layout};
 ghost use Rattle.mdf4.specs.Answers.{block_row_words, pair_words};
-ghost use Rattle.mdf4.specs.Demand3.{ranges_in};
 ghost use Rattle.mdf4.specs.Listing.{head_lines, row_lines, gap_line, gap_lines, found_text, target_text, link_line, link_lines, block_links, to_text};
 ghost use Rattle.mdf4.proofs.Good.{Readable};
-ghost use Rattle.tables.specs.Rows.{kind_of, row_at, held_rows, held_links};
+ghost use Rattle.blocks.specs.Kind.{kind_named};
+ghost use Rattle.tables.specs.Gaps.{range_of};
 ghost use Rattle.tables.specs.Laid.{Shows, RowOk, Printable};
+ghost use Rattle.tables.specs.Rows.{row_of, row_at, held_rows, link_of_words};
 
-use describe::{put_description, put_extra, put_link_name_left, put_mark, put_mark_column};
-use fmt::{put_bytes, put_format};
-use tables::{BLOCK_ROW_WORDS, PAIR_WORDS};
+use blocks::kind::Kind;
+use describe::links::put_link_name_left;
+use describe::{put_description, put_extra, put_mark, put_mark_column, row_kind};
+use fmt::Page;
+use tables::{BlockInfo, PAIR_WORDS, first_rows};
 
-fn put_head(out: &mut [u8], at: usize, len: u64, blocks: u64) -> usize
-    ensures { Wrote out.old at (head_lines len blocks) out.new result }
+fn put_head(page: &mut Page<'_>, len: u64, blocks: u64)
+    ensures { Writes page.old (head_lines len blocks) page.new }
 {
-    let a = put_format(
-        out,
-        at,
+    page.put_format(
         b"MDF block layout (file size: % bytes / 0x*)\n\n",
         &[len, len],
     );
-    let a = put_format(out, a, b"Blocks (% total), sorted by offset:\n", &[blocks]);
-    let a = put_bytes(
-        out,
-        a,
-        b"offset        end                 size  type    description\n",
-    );
-    put_bytes(
-        out,
-        a,
+    page.put_format(b"Blocks (% total), sorted by offset:\n", &[blocks]);
+    page.put_bytes(b"offset        end                 size  type    description\n");
+    page.put_bytes(
         b"------------  ------------  ----------  ------  ------------------------------------------------------------\n",
-    )
-}
-
-// The lines of the row at place i.
-fn put_row(out: &mut [u8], at: usize, file: &[u8], blocks: &[u64], i: usize) -> usize
-    requires { (i * block_row_words + block_row_words ≤ length blocks.now) × Readable file.now (row_at i blocks.now) }
-    ensures { Wrote out.old at (row_lines file.now (row_at i blocks.now)) out.new result }
-{
-    let row = i * BLOCK_ROW_WORDS;
-    let a = put_format(
-        out,
-        at,
-        b"0x$  0x$  !  ",
-        &[blocks[row], blocks[row + 1], blocks[row + 2]],
     );
-    let a = put_mark_column(out, a, blocks[row + 3]);
-    let a = put_bytes(out, a, b"  ");
-    let a = put_description(out, a, file, blocks, i);
-    let a = put_bytes(out, a, b"\n");
-    put_extra(out, a, file, blocks, i)
 }
 
-fn put_rows(out: &mut [u8], at: usize, file: &[u8], blocks: &[u64], n: usize) -> usize
-    requires { (n * block_row_words ≤ length blocks.now) × ((i : ℕ) → i < n → Readable file.now (row_at i blocks.now)) }
-    ensures { Wrote out.old at (concat_map (row_lines file.now) (held_rows n blocks.now)) out.new result }
+// The lines of a row.
+fn put_row(page: &mut Page<'_>, file: &[u8], block: &BlockInfo)
+    requires { Readable file.now (row_of block.now) }
+    ensures { Writes page.old (row_lines file.now (row_of block.now)) page.new }
 {
-    let mut a = at;
-    let mut i = 0;
-    while i < n {
-        a = put_row(out, a, file, blocks, i);
-        i += 1;
+    page.put_format(
+        b"0x$  0x$  !  ",
+        &[block.offset, block.end_offset, block.size],
+    );
+    put_mark_column(page, block.mark);
+    page.put_bytes(b"  ");
+    put_description(page, file, block);
+    page.put_bytes(b"\n");
+    put_extra(page, file, block);
+}
+
+fn put_rows(page: &mut Page<'_>, file: &[u8], blocks: &[u64], n: usize)
+    requires fits { n * block_row_words ≤ length blocks.now }
+    requires readable { (i : ℕ) → i < n → Readable file.now (row_at i blocks.now) }
+    ensures { Writes page.old (concat_map (row_lines file.now) (held_rows n blocks.now)) page.new }
+{
+    for i in 0..n {
+        put_row(page, file, &BlockInfo::load(blocks, i));
     }
-    a
-}
-
-// b - a, or 0 where a is the larger.
-fn less(b: u64, a: u64) -> u64
-    ensures { result ≡ b - a }
-{
-    if a < b { b - a } else { 0 }
-}
-
-fn put_gap(out: &mut [u8], at: usize, start: u64, end: u64) -> usize
-    ensures { Wrote out.old at (gap_line (start, end)) out.new result }
-{
-    put_format(
-        out,
-        at,
-        b"  0x$ .. 0x$  (% bytes)\n",
-        &[start, end, less(end, start)],
-    )
 }
 
 // The gaps, under their heading.
-fn put_gaps(out: &mut [u8], at: usize, gaps: &[u64], n: usize) -> usize
-    requires { n * pair_words ≤ length gaps.now }
-    ensures { Wrote out.old at (gap_lines (ranges_in pair_words n gaps.now)) out.new result }
+fn put_gaps(page: &mut Page<'_>, gaps: &[[u64; PAIR_WORDS]])
+    ensures { Writes page.old (gap_lines (map range_of gaps.now)) page.new }
 {
-    if n == 0 {
-        return at;
+    if gaps.is_empty() {
+        return;
     }
-    let mut a = put_bytes(out, at, b"\nUnreferenced byte ranges (gaps):\n");
-    let mut i = 0;
-    while i < n {
-        a = put_gap(out, a, gaps[i * PAIR_WORDS], gaps[i * PAIR_WORDS + 1]);
-        i += 1;
+    page.put_bytes(b"\nUnreferenced byte ranges (gaps):\n");
+    for &[start, end] in gaps {
+        page.put_format(
+            b"  0x$ .. 0x$  (% bytes)\n",
+            &[start, end, end.saturating_sub(start)],
+        );
     }
-    a
 }
 
-// The mark found at a link's target.
-fn put_found(out: &mut [u8], at: usize, target: u64, found: u64) -> usize
-    ensures { Wrote out.old at (found_text (record { target = target; found = found })) out.new result }
+// The mark found at a link's target: `found` is 0, or 1 + the mark.
+fn put_found(page: &mut Page<'_>, found: u64)
+    ensures { (t : ℕ) → Writes page.old (found_text (record { target = t; found = found })) page.new }
 {
-    if found == 0 {
-        return put_bytes(out, at, b"?");
+    match found.checked_sub(1) {
+        Some(mark) => put_mark(page, mark),
+        None => page.put_bytes(b"?"),
     }
-    put_mark(out, at, found - 1)
 }
 
-fn put_target(out: &mut [u8], at: usize, target: u64, found: u64) -> usize
-    ensures { Wrote out.old at (target_text (record { target = target; found = found })) out.new result }
+fn put_target(page: &mut Page<'_>, target: u64, found: u64)
+    ensures { Writes page.old (target_text (record { target = target; found = found })) page.new }
 {
     if target == 0 {
-        return put_bytes(out, at, b"(null)");
+        page.put_bytes(b"(null)");
+        return;
     }
-    let a = put_format(out, at, b"0x$ (", &[target]);
-    let a = put_found(out, a, target, found);
-    put_bytes(out, a, b")")
+    page.put_format(b"0x$ (", &[target]);
+    put_found(page, found);
+    page.put_bytes(b")");
 }
 
 // The link at place i of a block of the kind.
-fn put_link(out: &mut [u8], at: usize, kind: u64, i: usize, target: u64, found: u64) -> usize
-    ensures { Wrote out.old at (link_line (kind_of kind) i (record { target = target; found = found })) out.new result }
+fn put_link(page: &mut Page<'_>, kind: Kind, i: usize, target: u64, found: u64)
+    ensures { Writes page.old (link_line (kind_named kind) i (record { target = target; found = found })) page.new }
 {
-    let a = put_bytes(out, at, b"    ");
-    let a = put_link_name_left(out, a, kind, i);
-    let a = put_bytes(out, a, b" -> ");
-    let a = put_target(out, a, target, found);
-    put_bytes(out, a, b"\n")
+    page.put_bytes(b"    ");
+    put_link_name_left(page, kind, i);
+    page.put_bytes(b" -> ");
+    put_target(page, target, found);
+    page.put_bytes(b"\n");
 }
 
-// `count` links of the link table, from `first` on.
-fn put_links(
-    out: &mut [u8],
-    at: usize,
-    kind: u64,
-    links: &[u64],
-    first: usize,
-    count: usize,
-) -> usize
-    requires { (first + count) * pair_words ≤ length links.now }
-    ensures { (m : ℕ) → first + count ≤ m → Wrote out.old at (link_lines (kind_of kind) 0 (take count (drop first (held_links m links.now)))) out.new result }
+// The links of a block of the kind.
+fn put_links(page: &mut Page<'_>, kind: Kind, links: &[[u64; PAIR_WORDS]])
+    ensures { Writes page.old (link_lines (kind_named kind) 0 (map link_of_words links.now)) page.new }
 {
-    let mut a = at;
-    let mut i = 0;
-    while i < count {
-        let link = (first + i) * PAIR_WORDS;
-        a = put_link(out, a, kind, i, links[link], links[link + 1]);
-        i += 1;
+    for (i, &[target, found]) in links.iter().enumerate() {
+        put_link(page, kind, i, target, found);
     }
-    a
 }
 
-// The links of the row at place i; nothing where it has none.
-fn put_block_links(
-    out: &mut [u8],
-    at: usize,
-    file: &[u8],
-    blocks: &[u64],
-    i: usize,
-    links: &[u64],
-    m: usize,
-) -> usize
-    requires { (i * block_row_words + block_row_words ≤ length blocks.now) × (m * pair_words ≤ length links.now) × RowOk file.now m (row_at i blocks.now) }
-    ensures { Wrote out.old at (block_links file.now (held_links m links.now) (row_at i blocks.now)) out.new result }
+// The links of a row, of all links; nothing where it has none.
+fn put_block_links(page: &mut Page<'_>, file: &[u8], block: &BlockInfo, links: &[[u64; PAIR_WORDS]])
+    requires { RowOk file.now (length links.now) (row_of block.now) }
+    ensures { Writes page.old (block_links file.now (map link_of_words links.now) (row_of block.now)) page.new }
 {
-    let row = i * BLOCK_ROW_WORDS;
-    let first = blocks[row + 6] as usize;
-    let count = blocks[row + 7] as usize;
+    let first = block.first_link as usize;
+    let count = block.link_count as usize;
     if count == 0 {
-        return at;
+        return;
     }
-    let a = put_bytes(out, at, b"  ");
-    let a = put_mark(out, a, blocks[row + 3]);
-    let a = put_format(out, a, b" @ 0x$ (", &[blocks[row]]);
-    let a = put_description(out, a, file, blocks, i);
-    let a = put_bytes(out, a, b")\n");
-    put_links(out, a, blocks[row + 4], links, first, count)
+    page.put_bytes(b"  ");
+    put_mark(page, block.mark);
+    page.put_format(b" @ 0x$ (", &[block.offset]);
+    put_description(page, file, block);
+    page.put_bytes(b")\n");
+    put_links(page, row_kind(block.kind), &links[first..first + count]);
 }
 
 fn put_all_links(
-    out: &mut [u8],
-    at: usize,
+    page: &mut Page<'_>,
     file: &[u8],
     blocks: &[u64],
     n: usize,
-    links: &[u64],
-    m: usize,
-) -> usize
-    requires { Printable file.now n blocks.now m links.now }
-    ensures { Wrote out.old at (concat_map (block_links file.now (held_links m links.now)) (held_rows n blocks.now)) out.new result }
+    links: &[[u64; PAIR_WORDS]],
+)
+    requires fits { n * block_row_words ≤ length blocks.now }
+    requires ok { (i : ℕ) → i < n → RowOk file.now (length links.now) (row_at i blocks.now) }
+    ensures { Writes page.old (concat_map (block_links file.now (map link_of_words links.now)) (held_rows n blocks.now)) page.new }
 {
-    let mut a = at;
-    let mut i = 0;
-    while i < n {
-        a = put_block_links(out, a, file, blocks, i, links, m);
-        i += 1;
+    for i in 0..n {
+        put_block_links(page, file, &BlockInfo::load(blocks, i), links);
     }
-    a
 }
 
 // The whole listing of n blocks, m links and k gaps.
@@ -221,9 +165,11 @@ pub fn put_text(
     requires { Printable file.now n blocks.now m links.now × (k * pair_words ≤ length gaps.now) }
     ensures { (y : Layout) → Shows y n blocks.now m links.now k gaps.now → Wrote out.old 0 (to_text file.now y) out.new result }
 {
-    let a = put_head(out, 0, file.len() as u64, n as u64);
-    let a = put_rows(out, a, file, blocks, n);
-    let a = put_gaps(out, a, gaps, k);
-    let a = put_bytes(out, a, b"\nBlock links:\n");
-    put_all_links(out, a, file, blocks, n, links, m)
+    let mut page = Page::new(out);
+    put_head(&mut page, file.len() as u64, n as u64);
+    put_rows(&mut page, file, blocks, n);
+    put_gaps(&mut page, first_rows(gaps, k));
+    page.put_bytes(b"\nBlock links:\n");
+    put_all_links(&mut page, file, blocks, n, first_rows(links, m));
+    page.at
 }

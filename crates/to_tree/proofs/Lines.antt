@@ -8,16 +8,16 @@ use native.Mathlib.Numerals.{add-one}
 use lib.ListN.{length, get_or, take, set}
 use lib.Seq.{take-suc, take-take, take-set-le, get_or-set_same}
 use borrow.Author.Tests.{eq-eqb, ne_eqb}
-use Rattle.fmt.specs.Text.{ascii, Wrote}
+use Rattle.fmt.specs.Text.{ascii, Writes}
+use Rattle.fmt.specs.declared.Page.{Page}
 use Rattle.fmt.specs.Format.{format}
-use Rattle.fmt.proofs.Text.{none, then}
+use Rattle.fmt.proofs.Text.{writes_none, writes_then}
 use Rattle.mdf4.specs.Act.{Row}
-use Rattle.mdf4.specs.Answers.{block_row_words}
 use Rattle.mdf4.specs.Describe.{mark_text, describe, link_name}
 use Rattle.mdf4.specs.Tree.{Edge, edge, bar, connector, prefix_text, edge_text, child_prefix, node_line, max_levels}
 use Rattle.mdf4.proofs.TreeCode.{bars_snoc}
-use Rattle.tables.specs.Rows.{kind_of, row_at}
-use Rattle.tables.proofs.Words.{row_is}
+use Rattle.tables.specs.Rows.{kind_of, row_of}
+use Rattle.tables.specs.declared.BlockInfo.{BlockInfo}
 use Rattle.to_tree.specs.Lines.{flag, flags, edge_of}
 
 -- a bar by its byte
@@ -33,53 +33,54 @@ last_three : (x a b c : List ℕ) → x ++ a ++ b ++ c ≡ x ++ (a ++ b ++ c)
 last_three x a b c = append_assoc (x ++ a) b c ∙ append_assoc x a (b ++ c) ∙ ap (λ (q : List ℕ). x ++ q) (sym (append_assoc a b c))
 
 -- texts as they are written piece by piece
-module _ {out : List ℕ} {at : ℕ} {out' : List ℕ} {at' : ℕ} where
-  pub wrote_bar_last : (x : ℕ) → x ≡ 1 → Wrote out at (ascii "    ") out' at' → Wrote out at (bar (flag x)) out' at'
+module _ {p q : Page} where
+  pub wrote_bar_last : (x : ℕ) → x ≡ 1 → Writes p (ascii "    ") q → Writes p (bar (flag x)) q
   unfolding bar
   wrote_bar_last x e w = rw (flag_last x e) w
 
-  pub wrote_bar_more : (x : ℕ) → (x ≡ 1 → ⊥) → Wrote out at (ascii "|   ") out' at' → Wrote out at (bar (flag x)) out' at'
+  pub wrote_bar_more : (x : ℕ) → (x ≡ 1 → ⊥) → Writes p (ascii "|   ") q → Writes p (bar (flag x)) q
   unfolding bar
   wrote_bar_more x h w = rw (flag_more x h) w
 
-  pub wrote_connector_last : (x : ℕ) → x ≡ 1 → Wrote out at (ascii "`-- ") out' at' → Wrote out at (connector (flag x)) out' at'
+  pub wrote_connector_last : (x : ℕ) → x ≡ 1 → Writes p (ascii "`-- ") q → Writes p (connector (flag x)) q
   unfolding connector
   wrote_connector_last x e w = rw (flag_last x e) w
 
-  pub wrote_connector_more : (x : ℕ) → (x ≡ 1 → ⊥) → Wrote out at (ascii "|-- ") out' at' → Wrote out at (connector (flag x)) out' at'
+  pub wrote_connector_more : (x : ℕ) → (x ≡ 1 → ⊥) → Writes p (ascii "|-- ") q → Writes p (connector (flag x)) q
   unfolding connector
   wrote_connector_more x h w = rw (flag_more x h) w
 
-  pub wrote_end : (t : Bool) (s : List ℕ) → ascii "]" ++ cond t (ascii " (already listed)") (ascii "") ++ ascii "\n" ≡ s → Wrote out at s out' at'
-      → Wrote out at (ascii "]" ++ cond t (ascii " (already listed)") (ascii "") ++ ascii "\n") out' at'
+  pub wrote_end : (t : Bool) (s : List ℕ) → ascii "]" ++ cond t (ascii " (already listed)") (ascii "") ++ ascii "\n" ≡ s → Writes p s q
+      → Writes p (ascii "]" ++ cond t (ascii " (already listed)") (ascii "") ++ ascii "\n") q
   wrote_end t s e w = rw e w
 
   pub wrote_edge : (bars : List ℕ) (depth kind place : ℕ) → (depth ≡ 0 → ⊥)
-      → Wrote out at (prefix_text (flags (take (depth - 1) bars)) ++ connector (flag (get_or bars (depth - 1) 0)) ++ ascii "(" ++ link_name (kind_of kind) place ++ ascii ") ") out' at'
-      → Wrote out at (edge_text (edge_of bars depth kind place)) out' at'
+      → Writes p (prefix_text (flags (take (depth - 1) bars)) ++ connector (flag (get_or bars (depth - 1) 0)) ++ ascii "(" ++ link_name (kind_of kind) place ++ ascii ") ") q
+      → Writes p (edge_text (edge_of bars depth kind place)) q
   unfolding edge_text edge_of
   wrote_edge bars zero kind place h w = absurd (h refl)
   wrote_edge bars (suc depth) kind place h w = let e : suc depth - 1 ≡ depth = omega arith in rw e at w
 
   line_as : (r : List ℕ) (w : Row) (m o : ℕ) (s : Edge) (t : Bool) → w.mark ≡ m → w.off ≡ o
-      → Wrote out at (edge_text s ++ mark_text m ++ format (ascii " @ 0x$ [") (o ∷ []) ++ describe r w ++ (ascii "]" ++ cond t (ascii " (already listed)") (ascii "") ++ ascii "\n")) out' at'
-      → Wrote out at (node_line r s w t) out' at'
+      → Writes p (edge_text s ++ mark_text m ++ format (ascii " @ 0x$ [") (o ∷ []) ++ describe r w ++ (ascii "]" ++ cond t (ascii " (already listed)") (ascii "") ++ ascii "\n")) q
+      → Writes p (node_line r s w t) q
   unfolding node_line
   line_as r w m o s t e f x =
-      let y : Wrote out at (edge_text s ++ mark_text w.mark ++ format (ascii " @ 0x$ [") (w.off ∷ []) ++ describe r w ++ (ascii "]" ++ cond t (ascii " (already listed)") (ascii "") ++ ascii "\n")) out' at'
+      let y : Writes p (edge_text s ++ mark_text w.mark ++ format (ascii " @ 0x$ [") (w.off ∷ []) ++ describe r w ++ (ascii "]" ++ cond t (ascii " (already listed)") (ascii "") ++ ascii "\n")) q
       = rw (← e, ← f) at x in
-      subst (λ (q : List ℕ). Wrote out at q out' at')
+      subst (λ (z : List ℕ). Writes p z q)
       (sym (last_three (edge_text s ++ mark_text w.mark ++ format (ascii " @ 0x$ [") (w.off ∷ []) ++ describe r w) (ascii "]") (cond t (ascii " (already listed)") (ascii "")) (ascii "\n"))) y
 
-  pub wrote_line : (r b : List ℕ) (i : ℕ) (s : Edge) (t : Bool)
-      → Wrote out at (edge_text s ++ mark_text (get_or b (i * block_row_words + 3) 0) ++ format (ascii " @ 0x$ [") (get_or b (i * block_row_words) 0 ∷ []) ++ describe r (row_at i b)
-      ++ (ascii "]" ++ cond t (ascii " (already listed)") (ascii "") ++ ascii "\n")) out' at'
-      → Wrote out at (node_line r s (row_at i b) t) out' at'
-  wrote_line r b i s t w = line_as r (row_at i b) _ _ s t (row_is b i).mark (row_is b i).off w
+  pub wrote_line : (r : List ℕ) (b : BlockInfo) (x : Row) (s : Edge) (t : Bool) → row_of b ≡ x
+      → Writes p (edge_text s ++ mark_text b.mark ++ format (ascii " @ 0x$ [") (b.offset ∷ []) ++ describe r (row_of b)
+      ++ (ascii "]" ++ cond t (ascii " (already listed)") (ascii "") ++ ascii "\n")) q
+      → Writes p (node_line r s x t) q
+  unfolding row_of
+  wrote_line r b x s t e w = rw e at (line_as r (row_of b) _ _ s t refl refl w)
 
-pub wrote_root : (out : List ℕ) (at : ℕ) (bars : List ℕ) (depth kind place : ℕ) → depth ≡ 0 → Wrote out at (edge_text (edge_of bars depth kind place)) out at
+pub wrote_root : (p : Page) (bars : List ℕ) (depth kind place : ℕ) → depth ≡ 0 → Writes p (edge_text (edge_of bars depth kind place)) p
 unfolding edge_text edge_of
-wrote_root out at bars depth kind place e = rw e (none out at)
+wrote_root p bars depth kind place e = rw e (writes_none p)
 
 map_snoc : (xs : List ℕ) (x : ℕ) → map flag (xs ++ x ∷ []) ≡ map flag xs ++ flag x ∷ []
 map_snoc [] x = refl
@@ -89,15 +90,14 @@ flags_snoc : (xs : List ℕ) (i : ℕ) → i < length xs → flags (take (suc i)
 unfolding flags
 flags_snoc xs i h = rw (take-suc xs i 0) (map_snoc (take i xs) (get_or xs i 0))
 
-pub no_bars : (out : List ℕ) (at : ℕ) (bars : List ℕ) → Wrote out at (prefix_text (flags (take 0 bars))) out at
+pub no_bars : (p : Page) (bars : List ℕ) → Writes p (prefix_text (flags (take 0 bars))) p
 unfolding prefix_text flags
-no_bars out at bars = none out at
+no_bars p bars = writes_none p
 
 -- one bar more
-pub then_bar : {out : List ℕ} {at : ℕ} {out' : List ℕ} {at' : ℕ} {out'' : List ℕ} {at'' : ℕ} (bars : List ℕ) (i : ℕ) → i < length bars
-    → Wrote out at (prefix_text (flags (take i bars))) out' at' → Wrote out' at' (bar (flag (get_or bars i 0))) out'' at''
-    → Wrote out at (prefix_text (flags (take (i + 1) bars))) out'' at''
-then_bar bars i h w v = rw (add-one, flags_snoc bars i h, bars_snoc (flags (take i bars)) (flag (get_or bars i 0))) (then w v)
+pub then_bar : {p q r : Page} (bars : List ℕ) (i : ℕ) → i < length bars
+    → Writes p (prefix_text (flags (take i bars))) q → Writes q (bar (flag (get_or bars i 0))) r → Writes p (prefix_text (flags (take (i + 1) bars))) r
+then_bar bars i h w v = rw (add-one, flags_snoc bars i h, bars_snoc (flags (take i bars)) (flag (get_or bars i 0))) (writes_then w v)
 
 -- the bars of a node's children
 pub bars_below : (bars : List ℕ) (depth kind place : ℕ) → depth ≤ length bars → child_prefix (edge_of bars depth kind place) ≡ flags (take depth bars)

@@ -7,13 +7,12 @@ use lib.ListN.{length, get_or, take, drop}
 use lib.Seq.{drop-cons}
 use borrow.Author.Tests.{eq-eqb, ne_eqb}
 use Rattle.mdf4.specs.Act.{Row, Link}
-use Rattle.mdf4.specs.Answers.{pair_words}
+use Rattle.mdf4.specs.Answers.{block_row_words, pair_words}
 use Rattle.mdf4.specs.Tree.{child_of, children}
 use Rattle.mdf4.proofs.Order.{Rising}
 use Rattle.mdf4.proofs.TreeCode.{search_hit, search_miss}
 use Rattle.tables.specs.Rows.{held_rows, held_links, row_at, link_at}
 use Rattle.tables.proofs.Words.{link_is, rows_at, rows_length, links_at, links_length}
-use Rattle.block_search.specs.Search.{Found}
 use Rattle.block_search.proofs.Searching.{rising_less, row_off}
 use Rattle.to_tree.specs.Search.{Leads, child, children_from, Next}
 
@@ -22,26 +21,33 @@ pub leads_none : (n : ℕ) (b : List ℕ) (t : ℕ) → t ≡ 0 → Leads n b t 
 unfolding child_of
 leads_none n b t z = record { hit = λ k. absurd (omega arith); miss = λ k r i l e. rw (eq-eqb l.target 0 (e ∙ z)) }
 
-pub leads_row : (n : ℕ) (b : List ℕ) (t r : ℕ) → (t ≡ 0 → ⊥) → Found n b t r → Leads n b t r
+pub leads_row : (n : ℕ) (b : List ℕ) (t r : ℕ) → (t ≡ 0 → ⊥) → r < n → get_or b (r * block_row_words) 0 ≡ t → Leads n b t r
 unfolding child_of
-leads_row n b t r nz f = record { hit = hit; miss = miss }
+leads_row n b t r nz h f = record { hit = λ k. hit; miss = λ k. absurd (omega arith) }
   where
     d : Row
     d = row_at 0 b
 
-    hit : r < n → Rising (held_rows n b) → (i : ℕ) (l : Link) → l.target ≡ t → child_of i l (held_rows n b) ≡ child i (row_at r b)
-    hit h u i l e =
+    hit : Rising (held_rows n b) → (i : ℕ) (l : Link) → l.target ≡ t → child_of i l (held_rows n b) ≡ child i (row_at r b)
+    hit u i l e =
         let k : r < length (held_rows n b) = omega (arith, rows_length n b) in
-        let o : (get_or (held_rows n b) r d).off ≡ l.target = row_off n r b d h ∙ f.hit h ∙ sym e in
+        let o : (get_or (held_rows n b) r d).off ≡ l.target = row_off n r b d h ∙ f ∙ sym e in
         rw (ne_eqb l.target 0 (λ z. nz (sym e ∙ z)))
         (search_hit i l.target (held_rows n b) r d k o (λ j q p. omega (arith, rising_less (held_rows n b) j r d u q k)) ∙ ap (child i) (rows_at n r b d h))
 
-    miss : n ≤ r → Rising (held_rows n b) → (i : ℕ) (l : Link) → l.target ≡ t → child_of i l (held_rows n b) ≡ []
-    miss h u i l e =
+pub leads_nowhere : (n : ℕ) (b : List ℕ) (t : ℕ) → (t ≡ 0 → ⊥) → (Rising (held_rows n b) → (j : ℕ) → j < n → get_or b (j * block_row_words) 0 ≡ t → ⊥) → Leads n b t n
+unfolding child_of
+leads_nowhere n b t nz f = record { hit = λ k. absurd (omega arith); miss = λ k. miss }
+  where
+    d : Row
+    d = row_at 0 b
+
+    miss : Rising (held_rows n b) → (i : ℕ) (l : Link) → l.target ≡ t → child_of i l (held_rows n b) ≡ []
+    miss u i l e =
         rw (ne_eqb l.target 0 (λ z. nz (sym e ∙ z)))
         (search_miss i l.target (held_rows n b) d (λ j q p.
         let k : j < n = omega (arith, rows_length n b) in
-        f.miss h u j k (sym (row_off n j b d k) ∙ p ∙ e)))
+        f u j k (sym (row_off n j b d k) ∙ p ∙ e)))
 
 -- children by the links from a place on
 pub from_cons : (first end i : ℕ) (ls : List Link) (ws : List Row) (d : Link) → first ≤ i → i < end → end ≤ length ls

@@ -22,8 +22,7 @@ use Rattle.to_tree.specs.Search.{child, children_from, Next}
 use Rattle.to_tree.specs.Lines.{flag, flags, edge_of}
 use Rattle.to_tree.specs.Printing.{Holds, Went, Stopped, Prints, below, Into, Opens, not_opened, TreeMet}
 use Rattle.to_tree.specs.declared.search.Child as declared
-use Rattle.to_tree.specs.declared.Tree.{Tree}
-use Rattle.to_tree.specs.declared.Tree.TheVariants.{Text, Refused}
+use Rattle.std.proofs.Common.{Result, Ok, Err}
 use Rattle.to_tree.specs.declared.Opened.{Opened}
 use Rattle.to_tree.specs.declared.Opened.TheVariants.{Below, Done, Refused as OpenedRefused}
 use Rattle.to_tree.proofs.Lines.{child_edge}
@@ -122,8 +121,8 @@ module _ (r : List ℕ) (n m : ℕ) (l : List ℕ) (levels : ℕ) (bars : List B
           (from_next first end c.link y.state.links y.blocks t.least ∙ next_rest b (c.link + 1) c' x y z v h (omega (arith, t.least))) _
           (next_left b (c.link + 1) c' x y z v h (omega (arith, t.least))))
 
-      module _ (bit : ℕ) (last : flag bit ≡ leb end c'.link) (w : Tree) (out' b' : List ℕ) (p : Prints n b m l w out' b' (child_node (flag bit))) where
-        pub turn : (a' : ℕ) → w ≡ Text a' → Turning r n m l levels bars kind first end b₀ out₀ a₀ b' out' a' c'
+      module _ (bit : ℕ) (last : flag bit ≡ leb end c'.link) (w : Result ℕ MdfError) (out' b' : List ℕ) (p : Prints n b m l w out' b' (child_node (flag bit))) where
+        pub turn : (a' : ℕ) → w ≡ Ok a' → Turning r n m l levels bars kind first end b₀ out₀ a₀ b' out' a' c'
         turn a' e = record {
           least = omega (arith, t.least, x.least);
           most = x.most;
@@ -145,7 +144,7 @@ module _ (r : List ℕ) (n m : ℕ) (l : List ℕ) (levels : ℕ) (bars : List B
                   is = s.is ∙ turned y z s.printed s.holds (s.child_at k (c.link - first)) ∙ then_ok _ _ _ f;
                 }
 
-        pub turn_no : (d : MdfError) → w ≡ Refused d → (y : Layout) (z v : List ℕ) → Holds n b₀ m l y z v → Stopped d (shown (page out₀ a₀) (below r y levels bars kind first end first v))
+        pub turn_no : (d : MdfError) → w ≡ Err d → (y : Layout) (z v : List ℕ) → Holds n b₀ m l y z v → Stopped d (shown (page out₀ a₀) (below r y levels bars kind first end first v))
         turn_no d e y z v h =
             let s = t.left y z v h in
             let g : Stopped d (child_node (flag bit) y s.printed) = rw e at (p.told y z s.printed s.holds) in
@@ -159,7 +158,7 @@ module _ (r : List ℕ) (n m : ℕ) (l : List ℕ) (levels : ℕ) (bars : List B
         record { printed = s.printed; is = s.is ∙ rw (from_end first end c.link y.state.links y.blocks k); rows = s.holds.rows }
 
 -- what a child prints, by its edge
-pub child_prints : (r : List ℕ) (n : ℕ) (b : List ℕ) (m : ℕ) (l : List ℕ) (w : Tree) (out out' b' : List ℕ) (a row kind place levels x : ℕ) (bars bars₀ : List ℕ)
+pub child_prints : (r : List ℕ) (n : ℕ) (b : List ℕ) (m : ℕ) (l : List ℕ) (w : Result ℕ MdfError) (out out' b' : List ℕ) (a row kind place levels x : ℕ) (bars bars₀ : List ℕ)
     → length bars ≡ max_levels → 1 ≤ levels → levels ≤ max_levels → take (max_levels - levels) bars ≡ take (max_levels - levels) bars₀
     → Prints n b m l w out' b' (node r b out a (set bars (max_levels - levels) x) row kind place (levels - 1))
     → Prints n b m l w out' b' (λ y v. shown (page out a) (render_tree_node r y (levels - 1) (edge (flags (take (max_levels - levels) bars₀)) (flag x) (kind_of kind) place) (row_at row b) v))
@@ -170,7 +169,7 @@ child_prints r n b m l w out out' b' a row kind place levels x bars bars₀ h k 
 
 -- a node from its opening on: nothing to follow; a child refuses; all children are printed
 module _ (r : List ℕ) (n : ℕ) (b : List ℕ) (m : ℕ) (l : List ℕ) (levels : ℕ) (bars : List Bool) (out₁ b₁ : List ℕ) (o : Layout → List ℕ → Out Shown) where
-  pub unopened : (q : Opened) (x : Tree) → ((a k f e : ℕ) → q ≡ Below a k f e → ⊥) → x ≡ not_opened q → Opens r n b m l levels bars q out₁ b₁ o → Prints n b m l x out₁ b₁ o
+  pub unopened : (q : Opened) (x : Result ℕ MdfError) → ((a k f e : ℕ) → q ≡ Below a k f e → ⊥) → x ≡ not_opened q → Opens r n b m l levels bars q out₁ b₁ o → Prints n b m l x out₁ b₁ o
   unopened (Done a) x g e p = record { told = λ y z v h. rw e (p.told y z v h); same = p.same }
   unopened (OpenedRefused d) x g e p = record { told = λ y z v h. rw e (p.told y z v h); same = p.same }
   unopened (Below a k f e) x g i p = absurd (g a k f e refl)
@@ -179,7 +178,7 @@ module _ (r : List ℕ) (n : ℕ) (b : List ℕ) (m : ℕ) (l : List ℕ) (level
     into : (y : Layout) (z v : List ℕ) → Holds n b m l y z v → Into r n m l levels bars a kind first end out₁ b₁ y z (o y v)
     into y z v h = rw e at (p.told y z v h)
 
-    pub refused_below : (w : Tree) (d : MdfError) → w ≡ Refused d
+    pub refused_below : (w : Result ℕ MdfError) (d : MdfError) → w ≡ Err d
         → ((y : Layout) (z v : List ℕ) → Holds n b₁ m l y z v → Stopped d (shown (page out₁ a) (below r y (levels - 1) bars kind first end first v))) → Prints n b m l w out' b' o
     refused_below w d g f = record {
       told = λ y z v h. let t = into y z v h in rw g (record { is = t.is ∙ (f y z t.printed t.holds).is });
@@ -187,14 +186,14 @@ module _ (r : List ℕ) (n : ℕ) (b : List ℕ) (m : ℕ) (l : List ℕ) (level
     }
 
     pub printed_below : (a' : ℕ)
-        → ((y : Layout) (z v : List ℕ) → Holds n b₁ m l y z v → Went a' out' b' y z (shown (page out₁ a) (below r y (levels - 1) bars kind first end first v))) → Prints n b m l (Text a') out' b' o
+        → ((y : Layout) (z v : List ℕ) → Holds n b₁ m l y z v → Went a' out' b' y z (shown (page out₁ a) (below r y (levels - 1) bars kind first end first v))) → Prints n b m l (Ok a') out' b' o
     printed_below a' f = record {
       told = λ y z v h. let t = into y z v h in let u = f y z t.printed t.holds in record { printed = u.printed; is = t.is ∙ u.is; rows = u.rows };
       same = λ i. s i ∙ p.same i;
     }
 
 -- a root has all levels and no edge
-pub root_prints : (r : List ℕ) (n : ℕ) (b : List ℕ) (m : ℕ) (l : List ℕ) (w : Tree) (out out' b' : List ℕ) (a i : ℕ) (bars : List ℕ)
+pub root_prints : (r : List ℕ) (n : ℕ) (b : List ℕ) (m : ℕ) (l : List ℕ) (w : Result ℕ MdfError) (out out' b' : List ℕ) (a i : ℕ) (bars : List ℕ)
     → Prints n b m l w out' b' (node r b out a bars i 0 0 max_levels)
     → Prints n b m l w out' b' (λ y v. shown (page out a) (render_tree_node r y max_levels root (row_at i b) v))
 unfolding edge_of
@@ -234,7 +233,7 @@ module _ (r : List ℕ) (n m : ℕ) (l b₀ out₀ : List ℕ) where
                 is = s.is ∙ rw (rows_from y z s.printed s.holds) (root_again r y (row_at i b) (drop (i + 1) y.blocks) s.printed (page out a) e);
               }
 
-      module _ (c : get_or b (mark_at i) 0 ≡ 0) (w : Tree) (out' b' : List ℕ) (p : Prints n b m l w out' b' (λ y v. shown (page out a) (render_tree_node r y max_levels root (row_at i b) v))) where
+      module _ (c : get_or b (mark_at i) 0 ≡ 0) (w : Result ℕ MdfError) (out' b' : List ℕ) (p : Prints n b m l w out' b' (λ y v. shown (page out a) (render_tree_node r y max_levels root (row_at i b) v))) where
         begun : (y : Layout) (z v : List ℕ) → Holds n b m l y z v
             → shown (page out a) (roots r y (drop i y.blocks) v)
             ≡ and_then (shown (page out a) (render_tree_node r y max_levels root (row_at i b) v)) (λ q. shown q.0 (roots r y (drop (i + 1) y.blocks) q.1))
@@ -242,7 +241,7 @@ module _ (r : List ℕ) (n m : ℕ) (l b₀ out₀ : List ℕ) where
             let e : elem (row_at i b).off v ≡ false = bit_false (elem (row_at i b).off v) (sym (mark_held h i k) ∙ c) in
             rw (rows_from y z v h) (root_new r y (row_at i b) (drop (i + 1) y.blocks) v (page out a) e)
 
-        pub root_printed : (a' : ℕ) → w ≡ Text a' → Rooting r n m l b₀ out₀ b' out' a' (i + 1)
+        pub root_printed : (a' : ℕ) → w ≡ Ok a' → Rooting r n m l b₀ out₀ b' out' a' (i + 1)
         root_printed a' e = record { same = λ j. p.same j ∙ t.same j; left = left }
           where
             left : (y : Layout) (z v : List ℕ) → Holds n b₀ m l y z v → LeftRoots r n m l b' out' a' (i + 1) y z (shown (page out₀ 0) (roots r y y.blocks v))
@@ -255,7 +254,7 @@ module _ (r : List ℕ) (n m : ℕ) (l b₀ out₀ : List ℕ) where
                   is = s.is ∙ begun y z s.printed s.holds ∙ then_ok _ _ _ g.is;
                 }
 
-        pub root_refused : (d : MdfError) → w ≡ Refused d → Prints n b₀ m l w out' b' (λ y v. shown (page out₀ 0) (roots r y y.blocks v))
+        pub root_refused : (d : MdfError) → w ≡ Err d → Prints n b₀ m l w out' b' (λ y v. shown (page out₀ 0) (roots r y y.blocks v))
         root_refused d e = record { told = λ y z v h. rw e (told y z v h); same = λ j. p.same j ∙ t.same j }
           where
             told : (y : Layout) (z v : List ℕ) → Holds n b₀ m l y z v → Stopped d (shown (page out₀ 0) (roots r y y.blocks v))
@@ -264,7 +263,7 @@ module _ (r : List ℕ) (n m : ℕ) (l b₀ out₀ : List ℕ) where
                 let g : Stopped d (shown (page out a) (render_tree_node r y max_levels root (row_at i b) s.printed)) = rw e at (p.told y z s.printed s.holds) in
                 record { is = s.is ∙ begun y z s.printed s.holds ∙ then_err _ _ _ g.is }
 
-    pub rooted : n ≤ i → Prints n b₀ m l (Text a) out b (λ y v. shown (page out₀ 0) (roots r y y.blocks v))
+    pub rooted : n ≤ i → Prints n b₀ m l (Ok a) out b (λ y v. shown (page out₀ 0) (roots r y y.blocks v))
     unfolding roots shown emit
     rooted k = record { told = told; same = t.same }
       where
@@ -288,12 +287,12 @@ unfolding shown
 shown_no p d (ok q) e = let z : ◌≡◌ {A = ℕ} 0 1 = cc in absurd (omega arith)
 shown_no p d (err f) e = cc
 
-pub tree_met : (r : List ℕ) (n : ℕ) (b : List ℕ) (m : ℕ) (l : List ℕ) (q : Tree) (out out' b' : List ℕ)
+pub tree_met : (r : List ℕ) (n : ℕ) (b : List ℕ) (m : ℕ) (l : List ℕ) (q : Result ℕ MdfError) (out out' b' : List ℕ)
     → Prints n b m l q out' b' (λ y v. shown (page out 0) (roots r y y.blocks v))
     → (y : Layout) (z : List ℕ) → Holds n b m l y z [] → TreeMet q out out' b' y.blocks z (to_tree r y)
 unfolding to_tree
-tree_met r n b m l (Text a) out out' b' p y z h =
+tree_met r n b m l (Ok a) out out' b' p y z h =
     let g = p.told y z [] h in
     let s = shown_back (page out 0) (page out' a) g.printed (roots r y y.blocks []) g.is in
     record { text = s.0; printed = g.printed; is = s.1; wrote = record { is = s.2 }; rows = g.rows }
-tree_met r n b m l (Refused d) out out' b' p y z h = record { is = shown_no (page out 0) (numbers d) (roots r y y.blocks []) (p.told y z [] h).is }
+tree_met r n b m l (Err d) out out' b' p y z h = record { is = shown_no (page out 0) (numbers d) (roots r y y.blocks []) (p.told y z [] h).is }

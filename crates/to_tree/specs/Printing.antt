@@ -1,5 +1,5 @@
 -- What the printer of the tree answers, over n rows of the block table b and m of the link table l.
-use Rattle.std.specs.Prelude.{◌≡◌, Bool, List, ◌++◌, ℕ, ◌-◌, ◌≤◌, length}
+use Rattle.std.specs.Prelude.{◌≡◌, Bool, List, Result, Ok, Err, ◌++◌, ℕ, ◌-◌, ◌≤◌, length}
 use Rattle.fmt.specs.Text.{page, Wrote}
 use Rattle.mdf4.specs.Bytes.{concat_map}
 use Rattle.mdf4.specs.Act.{Out, ok, err, Row}
@@ -12,8 +12,6 @@ use Rattle.blocks.specs.Errors.{numbers}
 use Rattle.blocks.specs.declared.error.MdfError.{MdfError}
 use Rattle.tables.specs.Rows.{kind_of, held_links, row_at}
 use Rattle.to_tree.specs.Search.{children_from}
-use Rattle.to_tree.specs.declared.Tree.{Tree}
-use Rattle.to_tree.specs.declared.Tree.TheVariants.{Text, Refused}
 use Rattle.to_tree.specs.declared.Opened.{Opened}
 use Rattle.to_tree.specs.declared.Opened.TheVariants.{Below, Done, Refused as OpenedRefused}
 
@@ -33,12 +31,12 @@ pub record Went (a : ℕ) (out b : List ℕ) (y : Layout) (z : List ℕ) (o : Ou
 pub record Stopped {A : Type 0} (e : MdfError) (o : Out A) : Type 0 where
   pub is : o ≡ err (numbers e)
 
-abbrev pub Told : Tree → List ℕ → List ℕ → Layout → List ℕ → Out Shown → Type 0
-Told (Text a) out b y z o = Went a out b y z o
-Told (Refused e) out b y z o = Stopped e o
+abbrev pub Told : Result ℕ MdfError → List ℕ → List ℕ → Layout → List ℕ → Out Shown → Type 0
+Told (Ok a) out b y z o = Went a out b y z o
+Told (Err e) out b y z o = Stopped e o
 
 -- a function that answers q prints o of any layout that the tables hold, and changes tree marks only
-pub record Prints (n : ℕ) (b : List ℕ) (m : ℕ) (l : List ℕ) (q : Tree) (out' b' : List ℕ) (o : Layout → List ℕ → Out Shown) : Type 0 where
+pub record Prints (n : ℕ) (b : List ℕ) (m : ℕ) (l : List ℕ) (q : Result ℕ MdfError) (out' b' : List ℕ) (o : Layout → List ℕ → Out Shown) : Type 0 where
   pub told : (y : Layout) (z v : List ℕ) → Holds n b m l y z v → Told q out' b' y z (o y v)
   pub same : (i : ℕ) → row_at i b' ≡ row_at i b
 
@@ -64,10 +62,10 @@ pub record Opens (r : List ℕ) (n : ℕ) (b : List ℕ) (m : ℕ) (l : List ℕ
   pub same : (i : ℕ) → row_at i b' ≡ row_at i b
   pub inside : (a kind first end : ℕ) → q ≡ Below a kind first end → (first ≤ end) × (end ≤ m) × (1 ≤ levels)
 
-abbrev pub not_opened : Opened → Tree
-not_opened (Below a kind first end) = Text a
-not_opened (Done a) = Text a
-not_opened (OpenedRefused e) = Refused e
+abbrev pub not_opened : Opened → Result ℕ MdfError
+not_opened (Below a kind first end) = Ok a
+not_opened (Done a) = Ok a
+not_opened (OpenedRefused e) = Err e
 
 -- the whole tree: its text is written from the output's start on, and the rows ws have their tree marks
 pub record Whole (a : ℕ) (out out' b' : List ℕ) (ws : List Row) (z : List ℕ) (o : Out Printed) : Type 0 where
@@ -77,6 +75,6 @@ pub record Whole (a : ℕ) (out out' b' : List ℕ) (ws : List Row) (z : List �
   pub wrote : Wrote out 0 text out' a
   pub rows : b' ≡ concat_map (row_words printed) ws ++ z
 
-abbrev pub TreeMet : Tree → List ℕ → List ℕ → List ℕ → List Row → List ℕ → Out Printed → Type 0
-TreeMet (Text a) out out' b' ws z o = Whole a out out' b' ws z o
-TreeMet (Refused e) out out' b' ws z o = Stopped e o
+abbrev pub TreeMet : Result ℕ MdfError → List ℕ → List ℕ → List ℕ → List Row → List ℕ → Out Printed → Type 0
+TreeMet (Ok a) out out' b' ws z o = Whole a out out' b' ws z o
+TreeMet (Err e) out out' b' ws z o = Stopped e o

@@ -23,13 +23,6 @@ pub mod search;
 // How deep a line may be.
 const MAX_LEVELS: usize = 4096;
 
-// The bytes that were to be written so far, or the refusal.
-#[derive(Drop)]
-pub enum Tree {
-    Text(usize),
-    Refused(MdfError),
-}
-
 // A node to print: its row, the kind of the block that links to it and the place of that link, and the levels left. A root, which
 // no link leads to, has all levels.
 #[derive(Drop)]
@@ -98,18 +91,18 @@ fn open_node(
 }
 
 // The answer of a node with nothing to follow.
-fn not_opened(opened: Opened) -> Tree
+fn not_opened(opened: Opened) -> Result<usize, MdfError>
     ensures { result ≡ not_opened opened }
 {
     match opened {
-        Opened::Done(at) => Tree::Text(at),
-        Opened::Refused(e) => Tree::Refused(e),
+        Opened::Done(at) => Ok(at),
+        Opened::Refused(e) => Err(e),
         Opened::Below {
             at,
             kind: _,
             first: _,
             end: _,
-        } => Tree::Text(at),
+        } => Ok(at),
     }
 }
 
@@ -131,7 +124,7 @@ fn render_tree_node(
     out: &mut [u8],
     at: usize,
     node: Node,
-) -> Tree
+) -> Result<usize, MdfError>
     requires { Printable file.now n blocks.old m links.now × (node.row < n) × (length bars.old ≡ max_levels) × (node.levels ≤ max_levels) }
     ensures { Prints n blocks.old m links.now result out.new blocks.new (λ y v. shown (page out.old at) (render_tree_node file.now y node.levels (edge_of bars.old (max_levels - node.levels) node.kind node.place) (row_at node.row blocks.old) v)) × (take (max_levels - node.levels) bars.new ≡ take (max_levels - node.levels) bars.old) }
 {
@@ -158,13 +151,13 @@ fn render_tree_node(
             levels: levels - 1,
         };
         let went = render_tree_node(file, blocks, n, links, m, bars, out, a, below);
-        let Tree::Text(b) = went else {
+        let Ok(b) = went else {
             return went;
         };
         a = b;
         child = next;
     }
-    Tree::Text(a)
+    Ok(a)
 }
 
 // Every row whose mark is still 0 is a root, in the order of the table.
@@ -176,7 +169,7 @@ fn put_roots(
     m: usize,
     bars: &mut [u8],
     out: &mut [u8],
-) -> Tree
+) -> Result<usize, MdfError>
     requires { Printable file.now n blocks.old m links.now × (length bars.old ≡ max_levels) }
     ensures { Prints n blocks.old m links.now result out.new blocks.new (λ y v. shown (page out.old 0) (roots file.now y y.blocks v)) }
 {
@@ -194,13 +187,13 @@ fn put_roots(
             levels: MAX_LEVELS,
         };
         let went = render_tree_node(file, blocks, n, links, m, bars, out, at, root);
-        let Tree::Text(a) = went else {
+        let Ok(a) = went else {
             return went;
         };
         at = a;
         i += 1;
     }
-    Tree::Text(at)
+    Ok(at)
 }
 
 // The tree of the n rows of the block table, ordered by offset, and the m rows of the link table.
@@ -211,7 +204,7 @@ pub fn put_tree(
     links: &[u64],
     m: usize,
     out: &mut [u8],
-) -> Tree
+) -> Result<usize, MdfError>
     requires { Printable file.now n blocks.old m links.now }
     ensures { (y : Layout) (z : List ℕ) → Holds n blocks.old m links.now y z [] → TreeMet result out.old out.new blocks.new y.blocks z (to_tree file.now y) }
 {

@@ -21,7 +21,10 @@ fn child_row(blocks: &[u64], n: usize, target: u64) -> usize
     if target == 0 {
         return n;
     }
-    find_row(blocks, n, target)
+    match find_row(blocks, n, target) {
+        Some(row) => row,
+        None => n,
+    }
 }
 
 // The first of the links from `from` up to `end` that leads to a listed block; `end` where there is none.

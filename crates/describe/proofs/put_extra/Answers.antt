@@ -1,10 +1,7 @@
--- `put_extra` meets its contract: the row that is read is the one that has the line.
-use Rattle.describe.proofs.Written.{row_readable, row_lined}
-use borrow.Author.Rules.{rules}
+-- `put_extra` meets its contract: a line, or none for the kinds that have none.
+use Rattle.fmt.proofs.Text.{writes_none}
+use Rattle.describe.proofs.Lines.{no_line}
 use Rattle.describe.proofs.put_extra.Goals as goal
 
-pub extra_block-requires : goal.extra_block-requires
-extra_block-requires c = search (rules, row_readable)
-
-pub returns : goal.returns
-returns c = search (rules, row_lined)
+pub returns-in-DG : goal.returns-in-DG
+returns-in-DG c = rw (no_line c.args.file.now c.args.block.now c.row_kind.result c.row_kind.ensures c.in-DG.is) (writes_none _)

@@ -1,7 +1,7 @@
 -- `put_mark` meets its contract: the four low bytes are those of the mark.
-use Rattle.describe.proofs.Written.{mark_wrote}
-use borrow.Author.Rules.{rules}
+use Rattle.mdf4.specs.Describe.{mark_text}
 use Rattle.describe.proofs.put_mark.Goals as goal
 
 pub returns : goal.returns
-returns c = search (rules, mark_wrote)
+unfolding mark_text
+returns c = rw c.bytes_of.ensures at c.put_lossy.ensures

@@ -1,10 +1,9 @@
--- `put_mark_column` meets its contract: a mark has at most four characters, so blanks fill it to six.
-use Rattle.describe.proofs.Written.{column_fits, column_wrote}
-use borrow.Author.Rules.{rules}
+-- `put_mark_column` meets its contract: blanks fill the mark to six characters.
+use Rattle.fmt.proofs.Text.{writes_then}
+use Rattle.describe.proofs.Written.{writes_as}
+use Rattle.mdf4.specs.Describe.{mark_column}
 use Rattle.describe.proofs.put_mark_column.Goals as goal
 
-pub overflow_sub-n : goal.overflow_sub-n
-overflow_sub-n c = search (rules, column_fits)
-
 pub returns : goal.returns
-returns c = search (rules, column_wrote)
+unfolding mark_column
+returns c = writes_as (writes_then c.put_mark.ensures c.put_times.ensures) (cc)

@@ -1,26 +1,13 @@
 -- `put_all_links` meets its contract. The invariant: the links of the rows passed are written.
-use native.Mathlib.Omega.{arith}
-use mathlib.Core.Path.{◌≡◌, refl}
-use Rattle.mdf4.specs.Answers.{block_row_words}
-use Rattle.tables.proofs.Sorting.{row_below}
+use Rattle.std.proofs.Common.{◌≡◌, arith}
 use Rattle.to_text.proofs.Lines.{rows_start, row_turn}
-use borrow.Author.Rules.{rules}
 use Rattle.to_text.proofs.put_all_links.Goals as goal
 
 pub loop-i-init : goal.loop-i-init
-loop-i-init c = (omega arith, refl, rows_start _ _ _ _)
-
-pub put_block_links-a-requires : goal.put_block_links-a-requires
-put_block_links-a-requires c =
-    let i = c.loop-i.i in
-    let p = c.requires in
-    (omega (arith, row_below block_row_words i c.args.n c.loop-i-test.true, p.rows_fit), p.links_fit, p.row i c.loop-i-test.true)
+loop-i-init c = rows_start _ _ _
 
 pub loop-i-preserved : goal.loop-i-preserved
-loop-i-preserved c = (omega arith, search rules, row_turn _ _ _ c.loop-i.invariant.2 c.put_block_links-a.ensures)
-
-pub shape_of-out : goal.shape_of-out
-shape_of-out c = c.loop-i.invariant.1
+loop-i-preserved c = row_turn _ c.args.blocks.now c.loop-i.i c.loop-i.invariant (rw c.load.ensures at c.put_block_links.ensures)
 
 pub returns : goal.returns
-returns c = let e : c.loop-i.i ≡ c.args.n = omega arith in rw e at c.loop-i.invariant.2
+returns c = let end : c.loop-i.i ≡ c.args.n = omega arith in rw end at c.loop-i.invariant

@@ -1,22 +1,25 @@
 -- `put_gaps` meets its contract. The invariant: the gaps passed are written behind the heading.
-use native.Mathlib.Omega.{arith}
-use mathlib.Core.Path.{refl}
-use Rattle.fmt.proofs.Text.{none, same_length}
-use Rattle.to_text.proofs.Lines.{gaps_none, gaps_headed, gaps_start, gap_turn}
-use borrow.Author.Rules.{rules}
+use Rattle.std.proofs.Common.{◌≡◌, length, take, arith}
+use Rattle.std.proofs.Math.Seq.{take_all}
+use Rattle.std.proofs.lemmas.Bool.Decides.{nat_tests}
+use Rattle.fmt.proofs.Text.{writes_none, writes_then}
+use Rattle.mdf4.specs.Listing.{gap_line}
+use Rattle.to_text.proofs.Lines.{gaps_none, gaps_start, gap_turn, headed}
 use Rattle.to_text.proofs.put_gaps.Goals as goal
 
-pub returns-then-n-eq0 : goal.returns-then-n-eq0
-returns-then-n-eq0 c = rw (gaps_none c.args.n c.args.gaps.now c.if-n-eq0.true) (none _ _)
+pub returns-then-is_empty : goal.returns-then-is_empty
+returns-then-is_empty c = let none : length c.args.gaps.now ≡ 0 = grind (arith, nat_tests) in rw (← (gaps_none c.args.gaps.now none)) (writes_none _)
 
-pub loop-i-init : goal.loop-i-init
-loop-i-init c = (omega arith, refl, gaps_start _ _ _)
+pub loop-start-init : goal.loop-start-init
+loop-start-init c = gaps_start _
 
-pub loop-i-preserved : goal.loop-i-preserved
-loop-i-preserved c = (omega arith, search rules, gap_turn c.args.gaps.now c.loop-i.i c.loop-i.invariant.2 c.put_gap-a.ensures)
+pub loop-start-preserved : goal.loop-start-preserved
+unfolding gap_line
+loop-start-preserved c = gap_turn c.args.gaps.now c.loop-start.start-index _ c.loop-start-test.true c.loop-start.invariant (rw c.saturating_sub.ensures at c.put_format.ensures)
 
 pub returns : goal.returns
-returns c = gaps_headed c.args.n c.loop-i.i c.args.gaps.now c.if-n-eq0.false (omega arith) c.put_bytes-a.ensures c.loop-i.invariant.2
-
-pub shape_of-out : goal.shape_of-out
-shape_of-out c = same_length (returns c)
+returns c =
+    let gaps = c.args.gaps.now in
+    let some : length gaps ≡ 0 → ⊥ = λ z. grind (arith, nat_tests) in
+    let all : take c.loop-start.start-index gaps ≡ gaps = take_all _ gaps c.loop-start-test.false in
+    rw (← (headed gaps some)) (writes_then c.put_bytes.ensures (rw all at c.loop-start.invariant))

@@ -1,8 +1,9 @@
--- `put_link` meets its contract.
-use Rattle.fmt.proofs.Text.{then}
+-- `put_link` meets its contract: five texts, one after the other.
+use Rattle.fmt.proofs.Text.{writes_then}
 use Rattle.mdf4.specs.Listing.{link_line}
 use Rattle.to_text.proofs.put_link.Goals as goal
 
 pub returns : goal.returns
 unfolding link_line
-returns c = then (then (then (then c.put_bytes-a.ensures c.put_link_name_left-a.ensures) c.put_bytes-a-2.ensures) c.put_target-a.ensures) c.put_bytes.ensures
+returns c =
+    writes_then (writes_then (writes_then (writes_then c.put_bytes.ensures c.put_link_name_left.ensures) c.put_bytes-2.ensures) c.put_target.ensures) c.put_bytes-3.ensures

@@ -1,9 +1,10 @@
--- `put_row` meets its contract: the words are the row's.
-use Rattle.fmt.proofs.Text.{then}
-use Rattle.to_text.proofs.Lines.{row_words_shown}
+-- `put_row` meets its contract: six texts, one after the other.
+use Rattle.fmt.proofs.Text.{writes_then}
+use Rattle.mdf4.specs.Listing.{row_lines}
+use Rattle.tables.specs.Rows.{row_of}
 use Rattle.to_text.proofs.put_row.Goals as goal
 
 pub returns : goal.returns
+unfolding row_lines row_of
 returns c =
-    let a = c.args in
-    rw (row_words_shown a.file.now a.blocks.now a.i) (then (then (then (then (then c.put_format-a.ensures c.put_mark_column-a.ensures) c.put_bytes-a.ensures) c.put_description-a.ensures) c.put_bytes-a-2.ensures) c.put_extra.ensures)
+    writes_then (writes_then (writes_then (writes_then (writes_then c.put_format.ensures c.put_mark_column.ensures) c.put_bytes.ensures) c.put_description.ensures) c.put_bytes-2.ensures) c.put_extra.ensures

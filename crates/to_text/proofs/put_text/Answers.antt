@@ -1,12 +1,18 @@
--- `put_text` meets its contract.
-use Rattle.fmt.proofs.Text.{then}
-use Rattle.to_text.proofs.Lines.{text_shown}
+-- `put_text` meets its contract: the listing, text by text.
+use Rattle.std.proofs.Common.{rules}
+use Rattle.fmt.proofs.Text.{writes_then}
+use Rattle.to_text.proofs.Lines.{links_long, text_shown, shown}
 use Rattle.to_text.proofs.put_text.Goals as goal
 
-pub put_rows-a-requires : goal.put_rows-a-requires
-put_rows-a-requires c = let p = c.requires.0 in (p.rows_fit, λ i h. (p.row i h).readable)
+pub put_all_links-requires-clause-ok : goal.put_all_links-requires-clause-ok
+put_all_links-requires-clause-ok c =
+    let a = c.args in
+    rw (links_long a.n a.blocks.now a.m a.links.now a.k a.gaps.now c.first_rows.ensures c.first_rows-2.ensures) c.requires.0.row
 
 pub returns : goal.returns
 returns c = λ y h.
     let a = c.args in
-    rw (text_shown a.file.now y a.n a.blocks.now a.m a.links.now a.k a.gaps.now h) (then (then (then (then c.put_head-a.ensures c.put_rows-a.ensures) c.put_gaps-a.ensures) c.put_bytes-a.ensures) c.put_all_links.ensures)
+    let wrote = writes_then (writes_then (writes_then (writes_then c.put_head.ensures c.put_rows.ensures) c.put_gaps.ensures) c.put_bytes.ensures) c.put_all_links.ensures in
+    let same = wrote.same_reference in
+    rw (text_shown a.n a.blocks.now a.m a.links.now a.k a.gaps.now c.first_rows.ensures c.first_rows-2.ensures a.file.now y h)
+    (shown c.new-page.ensures.out c.new-page.ensures.at wrote (search rules))

@@ -91,7 +91,7 @@ loop-child-preserved t c =
     let x = c.render_tree_node-went in (
       bars_kept l.bars _ c.args.node.levels _ x.ensures.1 ∙ v.0,
       turn _ _ _ _ _ _ _ _ _ _ _ _ i.1 _ _ _ _ v.1 c.loop-child-test.true _ c.next_child-next.ensures _ c.bar_of.ensures _ _ _
-          (child_prints _ _ _ _ _ _ _ _ _ _ _ _ _ c.args.node.levels _ l.bars c.args.bars.now (omega (arith, l.auto.bars, c.requires.2)) i.2 c.requires.3 v.0 x.ensures.0) _ c.in-Text.is,
+          (child_prints _ _ _ _ _ _ _ _ _ _ _ _ _ c.args.node.levels _ l.bars c.args.bars.now (omega (arith, l.auto.bars, c.requires.2)) i.2 c.requires.3 v.0 x.ensures.0) _ c.in-Ok.is,
     )
 
 pub returns : goal.returns

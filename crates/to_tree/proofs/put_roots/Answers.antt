@@ -26,7 +26,7 @@ returns-in_default c =
 
 pub loop-i-preserved : goal.loop-i-preserved
 loop-i-preserved c =
-    root_printed _ _ _ _ _ _ _ _ _ _ c.loop-i.invariant c.loop-i-test.true c.if-blocks-i-ne0.false _ _ _ (root_prints _ _ _ _ _ _ _ _ _ _ _ _ c.render_tree_node-went.ensures.0) _ c.in-Text.is
+    root_printed _ _ _ _ _ _ _ _ _ _ c.loop-i.invariant c.loop-i-test.true c.if-blocks-i-ne0.false _ _ _ (root_prints _ _ _ _ _ _ _ _ _ _ _ _ c.render_tree_node-went.ensures.0) _ c.in-Ok.is
 
 pub returns : goal.returns
 returns c = rooted _ _ _ _ _ _ _ _ _ _ c.loop-i.invariant c.loop-i-test.false

@@ -1,17 +1,10 @@
--- `describe_channel` meets its contract: the block's bytes are there, and three texts follow each other.
-use Rattle.describe.proofs.Rows.{begins}
-use Rattle.describe.proofs.Written.{cn_there, cn_wrote}
-use borrow.Author.Rules.{rules}
+-- `describe_channel` meets its contract: the fields are those of the block's own bytes.
+use Rattle.fmt.proofs.Text.{writes_then}
+use Rattle.describe.proofs.Said.{cn_said}
+use Rattle.describe.proofs.Written.{writes_as}
 use Rattle.describe.proofs.descriptions.describe_channel.Goals as goal
 
-pub slice_bounds-fields-count : goal.slice_bounds-fields-count
-slice_bounds-fields-count c = search (rules, begins)
-
-pub slice_bounds-fields-start : goal.slice_bounds-fields-start
-slice_bounds-fields-start c = search (rules, begins)
-
-pub fields-cn-requires : goal.fields-cn-requires
-fields-cn-requires c = search (rules, cn_there)
-
 pub returns : goal.returns
-returns c = search (rules, cn_wrote)
+returns c =
+    let said = cn_said c.requires c.fields_of-cn.ensures in
+    writes_as (writes_then (writes_then (writes_then (writes_then c.put_format.ensures c.put_name.ensures) c.put_format-2.ensures) c.put_data_type.ensures) c.put_format-3.ensures) (cc)

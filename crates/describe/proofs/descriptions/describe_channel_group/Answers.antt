@@ -1,17 +1,7 @@
--- `describe_channel_group` meets its contract: the block's bytes are there, and its fields fill one template.
-use Rattle.describe.proofs.Rows.{begins}
-use Rattle.describe.proofs.Written.{cg_there, cg_wrote}
-use borrow.Author.Rules.{rules}
+-- `describe_channel_group` meets its contract: the fields are those of the block's own bytes.
+use Rattle.describe.proofs.Said.{cg_said}
+use Rattle.describe.proofs.Written.{writes_as}
 use Rattle.describe.proofs.descriptions.describe_channel_group.Goals as goal
 
-pub slice_bounds-fields-count : goal.slice_bounds-fields-count
-slice_bounds-fields-count c = search (rules, begins)
-
-pub slice_bounds-fields-start : goal.slice_bounds-fields-start
-slice_bounds-fields-start c = search (rules, begins)
-
-pub fields-cg-requires : goal.fields-cg-requires
-fields-cg-requires c = search (rules, cg_there)
-
 pub returns : goal.returns
-returns c = search (rules, cg_wrote)
+returns c = let said = cg_said c.requires c.fields_of-cg.ensures in writes_as c.put_format.ensures (cc)

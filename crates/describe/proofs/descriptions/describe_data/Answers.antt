@@ -1,7 +1,7 @@
 -- `describe_data` meets its contract: the payload fills one template.
-use Rattle.describe.proofs.Written.{dt_wrote}
-use borrow.Author.Rules.{rules}
+use Rattle.describe.proofs.Said.{dt_said}
+use Rattle.describe.proofs.Written.{writes_as}
 use Rattle.describe.proofs.descriptions.describe_data.Goals as goal
 
 pub returns : goal.returns
-returns c = search (rules, dt_wrote)
+returns c = let said = dt_said c.requires in writes_as c.put_format.ensures (cc)

@@ -1,17 +1,8 @@
--- `describe_data_list` meets its contract: the block's bytes are there, and three texts follow each other.
-use Rattle.describe.proofs.Rows.{begins}
-use Rattle.describe.proofs.Written.{dl_there, dl_wrote}
-use borrow.Author.Rules.{rules}
+-- `describe_data_list` meets its contract: the fields are those of the block's own bytes.
+use Rattle.fmt.proofs.Text.{writes_then}
+use Rattle.describe.proofs.Said.{dl_said}
+use Rattle.describe.proofs.Written.{writes_as}
 use Rattle.describe.proofs.descriptions.describe_data_list.Goals as goal
 
-pub slice_bounds-fields-count : goal.slice_bounds-fields-count
-slice_bounds-fields-count c = search (rules, begins)
-
-pub slice_bounds-fields-start : goal.slice_bounds-fields-start
-slice_bounds-fields-start c = search (rules, begins)
-
-pub fields-dl-requires : goal.fields-dl-requires
-fields-dl-requires c = search (rules, dl_there)
-
 pub returns : goal.returns
-returns c = search (rules, dl_wrote)
+returns c = let said = dl_said c.requires c.fields_of-dl.ensures in writes_as (writes_then (writes_then c.put_format.ensures c.put_equal_length.ensures) c.put_bytes.ensures) (cc)

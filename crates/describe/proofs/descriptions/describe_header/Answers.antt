@@ -1,17 +1,11 @@
--- `describe_header` meets its contract: the block's bytes are there, and two of its fields are put.
-use Rattle.describe.proofs.Rows.{begins}
-use Rattle.describe.proofs.Written.{hd_there, hd_wrote}
-use borrow.Author.Rules.{rules}
+-- `describe_header` meets its contract: the fields are those of the block's own bytes.
+use Rattle.std.proofs.Common.{rules}
+use Rattle.fmt.proofs.Text.{writes_then}
+use Rattle.describe.proofs.Said.{hd_said}
+use Rattle.describe.proofs.Written.{signed_as}
 use Rattle.describe.proofs.descriptions.describe_header.Goals as goal
 
-pub slice_bounds-fields-count : goal.slice_bounds-fields-count
-slice_bounds-fields-count c = search (rules, begins)
-
-pub slice_bounds-fields-start : goal.slice_bounds-fields-start
-slice_bounds-fields-start c = search (rules, begins)
-
-pub fields-hd-requires : goal.fields-hd-requires
-fields-hd-requires c = search (rules, hd_there)
-
 pub returns : goal.returns
-returns c = search (rules, hd_wrote)
+returns c =
+    rw (hd_said c.requires c.fields_of-hd.ensures)
+    (signed_as _ _ (writes_then (writes_then c.put_format.ensures c.put_i16.ensures) c.put_bytes.ensures) (search rules))

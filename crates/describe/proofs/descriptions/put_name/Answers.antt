@@ -1,16 +1,14 @@
 -- `put_name` meets its contract: the name that was read, or nothing where there is none or it is refused.
-use Rattle.describe.proofs.Written.{named_order, named_high, named_text, named_none, named_refused}
-use borrow.Author.Rules.{rules}
+use Rattle.std.proofs.Common.{rules}
+use Rattle.describe.proofs.Named.{name_some, name_empty, name_refused}
+use Rattle.describe.proofs.Written.{writes_as}
 use Rattle.describe.proofs.descriptions.put_name.Goals as goal
 
-pub put_lossy-requires : goal.put_lossy-requires
-put_lossy-requires c = search (rules, named_order, named_high)
+pub returns-in-Ok-Some : goal.returns-in-Ok-Some
+returns-in-Ok-Some c = writes_as c.put_lossy.ensures (name_some c.args.file.now c.args.addr c.read_text_at.result c.read_text_at.ensures.says c.in-Ok-Some.name (search rules))
 
-pub returns-in-Text : goal.returns-in-Text
-returns-in-Text c = search (rules, named_text)
+pub returns : goal.returns
+returns c = search (rules, name_empty)
 
-pub returns-in-None : goal.returns-in-None
-returns-in-None c = search (rules, named_none)
-
-pub returns-in-Refused : goal.returns-in-Refused
-returns-in-Refused c = search (rules, named_refused)
+pub returns-2 : goal.returns-2
+returns-2 c = search (rules, name_refused)

@@ -1,17 +1,7 @@
--- `extra_channel` meets its contract: the block's bytes are there, and its fields fill one line.
-use Rattle.describe.proofs.Rows.{begins}
-use Rattle.describe.proofs.Written.{cn_there, cn_lined}
-use borrow.Author.Rules.{rules}
+-- `extra_channel` meets its contract: the fields are those of the block's own bytes.
+use Rattle.describe.proofs.Lines.{cn_line}
+use Rattle.describe.proofs.Written.{writes_as}
 use Rattle.describe.proofs.extras.extra_channel.Goals as goal
 
-pub slice_bounds-fields-count : goal.slice_bounds-fields-count
-slice_bounds-fields-count c = search (rules, begins)
-
-pub slice_bounds-fields-start : goal.slice_bounds-fields-start
-slice_bounds-fields-start c = search (rules, begins)
-
-pub fields-cn-requires : goal.fields-cn-requires
-fields-cn-requires c = search (rules, cn_there)
-
 pub returns : goal.returns
-returns c = search (rules, cn_lined)
+returns c = let said = cn_line c.requires c.fields_of-cn.ensures in writes_as c.put_line.ensures (cc)

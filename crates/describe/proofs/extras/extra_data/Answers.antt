@@ -1,10 +1,9 @@
--- `extra_data` meets its contract: the payload alone where records have no size, else the records.
-use Rattle.describe.proofs.Written.{dt_lined_none, dt_lined_some}
-use borrow.Author.Rules.{rules}
+-- `extra_data` meets its contract: 44 blanks, the records, and a line feed.
+use Rattle.fmt.proofs.Text.{writes_then}
+use Rattle.mdf4.specs.Describe.{indented}
+use Rattle.describe.proofs.Lines.{dt_line}
 use Rattle.describe.proofs.extras.extra_data.Goals as goal
 
-pub returns-then-block-eq0 : goal.returns-then-block-eq0
-returns-then-block-eq0 c = search (rules, dt_lined_none)
-
 pub returns : goal.returns
-returns c = search (rules, dt_lined_some)
+unfolding indented
+returns c = rw (dt_line c.requires) (writes_then (writes_then c.put_times.ensures c.put_records.ensures) c.put.ensures)

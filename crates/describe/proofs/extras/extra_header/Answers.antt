@@ -1,17 +1,7 @@
--- `extra_header` meets its contract: the block's bytes are there, and its fields fill one line.
-use Rattle.describe.proofs.Rows.{begins}
-use Rattle.describe.proofs.Written.{hd_there, hd_lined}
-use borrow.Author.Rules.{rules}
+-- `extra_header` meets its contract: the fields are those of the block's own bytes.
+use Rattle.describe.proofs.Lines.{hd_line}
+use Rattle.describe.proofs.Written.{writes_as}
 use Rattle.describe.proofs.extras.extra_header.Goals as goal
 
-pub slice_bounds-fields-count : goal.slice_bounds-fields-count
-slice_bounds-fields-count c = search (rules, begins)
-
-pub slice_bounds-fields-start : goal.slice_bounds-fields-start
-slice_bounds-fields-start c = search (rules, begins)
-
-pub fields-hd-requires : goal.fields-hd-requires
-fields-hd-requires c = search (rules, hd_there)
-
 pub returns : goal.returns
-returns c = search (rules, hd_lined)
+returns c = let said = hd_line c.requires c.fields_of-hd.ensures in writes_as c.put_line.ensures (cc)

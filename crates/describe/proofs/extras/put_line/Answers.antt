@@ -1,7 +1,8 @@
 -- `put_line` meets its contract: 44 blanks, the template, and a line feed.
-use Rattle.describe.proofs.Written.{line_wrote}
-use borrow.Author.Rules.{rules}
+use Rattle.fmt.proofs.Text.{writes_then}
+use Rattle.mdf4.specs.Describe.{indented}
 use Rattle.describe.proofs.extras.put_line.Goals as goal
 
 pub returns : goal.returns
-returns c = search (rules, line_wrote)
+unfolding indented
+returns c = writes_then (writes_then c.put_times.ensures c.put_format.ensures) c.put.ensures
