@@ -1,17 +1,19 @@
 -- How an entry ends: the exit of every refusal, and of an acceptance whose text fits the output. Assumes nothing.
-use mathlib.Core.Path.{◌≡◌}
+use mathlib.Core.Path.{◌≡◌, sym, ◌∙◌}
 use mathlib.Core.List.{List}
 use Prim.Native.Nat.{ℕ, ◌+◌, ◌^◌, ◌≤◌, ◌<◌}
 use lib.ListN.{length, replicate}
 use borrow.Author.Tests.{le-leb, lt-leb}
+use Rattle.std.specs.Prelude.{Ok, Err, OnErr, IsErrAnd}
 use Rattle.fmt.specs.Text.{Wrote}
 use Rattle.fmt.proofs.Room as Room
 use Rattle.mdf4.specs.Act.{Refusal, refusal, Out, ok, err, and_then, check}
 use Rattle.mdf4.specs.Layout.{Layout}
 use Rattle.mdf4.specs.Answers.{Lent, Counts, Exit, Made, made, counts, filled, exit, fitted}
+use Rattle.blocks.specs.Errors.{numbers}
+use Rattle.blocks.specs.declared.error.MdfError.{MdfError}
 use Rattle.file_layout.specs.Tables.{Zeroed, Filled}
-use Rattle.answers.specs.declared.Answer.{Answer}
-use Rattle.answers.specs.Entries.{exit_with, Long, Fits}
+use Rattle.answers.specs.Entries.{Answer, exit_with, left, Long, Ends, Settled}
 
 -- tables and an output as long as those lent, zeroed: the exit of a refusal
 pub refused_exit : (n : Lent) {v b l g o v' b' l' g' o' : List ℕ} (e : Refusal) → Zeroed v b l g v' b' l' g' → o' ≡ replicate (length o) 0 → Long n v b l g o
@@ -42,14 +44,24 @@ module _ (n : Lent) (y : Layout) (p t : List ℕ) {out : List ℕ} {at : ℕ} (s
       let q = Room.fitted n.out small w h in
       rw (le-leb (length t) n.out q.0, q.1, q.2) (accepted_exit n (made y p t) f)
 
--- a scratch table that ends zero, and bytes that fit an output of the same length
-pub scratch_zero : (a : Out Counts) (v b l g o : List ℕ) {s : List ℕ} {x : Exit} (j k : ℕ) → s ≡ replicate j 0 → j ≡ k → exit_with a v b l g (replicate k 0) o ≡ x
-    → exit_with a v b l g s o ≡ x
-scratch_zero a v b l g o j k e h w = rw (e, h) w
-
-pub fits_same : {a : Answer} {j k : ℕ} → j ≡ k → Fits a j → Fits a k
-fits_same h f = rw (← h) f
-
 -- an output that was zeroed
 pub from_zeros : {out out' t : List ℕ} {at : ℕ} (k : ℕ) → out ≡ replicate k 0 → Wrote out 0 t out' at → Wrote (replicate k 0) 0 t out' at
 from_zeros k e w = rw (← e) w
+
+-- an entry's answer is settled: the tables, and its output with them
+module _ (n : Lent) {x : Exit} {v b l g v' b' l' g' : List ℕ} where
+  pub settled : (a : Answer) {o o' : List ℕ} → Long n v b l g o → Ends n x a v b l g o → Settled a v b l g o v' b' l' g' o'
+      → left a v' b' l' g' (replicate n.scratch 0) o' ≡ x
+  settled (Ok y) k e s = let h = s.kept in rw (h.visited, h.blocks, h.links, h.gaps, h.output) e.is
+  settled (Err y) k e s = refused_exit n (numbers y) s.zeroed s.output_zeroed k ∙ e.is
+
+  -- its counts are zero where it refuses
+  pub settled_counts : (a : Answer) {o q q' : List ℕ} → Long n v b l g o → Ends n x a v b l g o → OnErr a (o ≡ replicate n.out 0)
+      → Settled a v b l g q v' b' l' g' q' → left a v' b' l' g' (replicate n.scratch 0) o ≡ x
+  settled_counts (Ok y) k e z s = let h = s.kept in rw (h.visited, h.blocks, h.links, h.gaps) e.is
+  settled_counts (Err y) k e z s = refused_exit n (numbers y) s.zeroed (rw k.out z) k ∙ e.is
+
+-- a refusal that `?` hands on
+pub ends_refused : {n : Lent} {x : Exit} {v b l g o : List ℕ} (a : Answer) (e : MdfError) → IsErrAnd a (λ d. d ≡ e) → x ≡ exit n (err (numbers e)) → Ends n x a v b l g o
+ends_refused (Ok y) e h p = absurd h
+ends_refused (Err d) e h p = record { is = rw h (sym p) }

@@ -1,15 +1,20 @@
 -- The answers of the entries and the words at exit, in the terms of the definition's `Exit`.
-use Rattle.std.specs.Prelude.{◌≡◌, List, ℕ, ◌≤◌, length}
+use Rattle.std.specs.Prelude.{◌≡◌, Result, Ok, Err, IfOk, OnOk, OnErr, List, ℕ, ◌≤◌, length, replicate}
 use Rattle.mdf4.specs.Act.{Out, ok, err}
-use Rattle.mdf4.specs.Answers.{Lent, Counts, Exit}
+use Rattle.mdf4.specs.Answers.{Lent, Counts, Exit, exit}
 use Rattle.blocks.specs.Errors.{numbers}
-use Rattle.answers.specs.declared.Answer.{Answer}
-use Rattle.answers.specs.declared.Answer.TheVariants as answer_variants
+use Rattle.blocks.specs.declared.error.MdfError.{MdfError}
+use Rattle.file_layout.specs.Tables.{Zeroed}
+use Rattle.file_layout.specs.declared.Rows.{Rows}
+use Rattle.answers.specs.declared.Accepted.{Accepted}
+
+abbrev pub Answer : Type 0
+Answer = Result Accepted MdfError
 
 -- what an answer says
 abbrev pub answered : Answer → Out Counts
-answered (answer_variants.Accepted v b l g n t) = ok (record { visited = v; blocks = b; links = l; gaps = g; bytes = n; total = t })
-answered (answer_variants.Refused e) = err (numbers e)
+answered (Ok a) = ok (record { visited = a.rows.visited; blocks = a.rows.blocks; links = a.rows.links; gaps = a.rows.gaps; bytes = a.bytes; total = a.total })
+answered (Err e) = err (numbers e)
 
 -- an answer with the words of the tables and the scratch table and the bytes of the output, or the preview's counts, at exit
 unfoldable pub exit_with : Out Counts → List ℕ → List ℕ → List ℕ → List ℕ → List ℕ → List ℕ → Exit
@@ -27,9 +32,27 @@ pub record Long (n : Lent) (v b l g o : List ℕ) : Type 0 where
   pub out : length o ≡ n.out
 
 -- the bytes answered, or the number of the preview's counts, are at most k
-abbrev pub Within : Answer → ℕ → Type 0
-Within (answer_variants.Accepted v b l g n t) k = n ≤ k
-Within (answer_variants.Refused e) k = Unit
-
 pub record Fits (a : Answer) (k : ℕ) : Type 0 where
-  pub is : Within a k
+  pub is : IfOk a (λ x. x.bytes ≤ k)
+
+abbrev pub EndsIn : Lent → Exit → Answer → List ℕ → List ℕ → List ℕ → List ℕ → List ℕ → Type 0
+EndsIn n x (Ok a) v b l g o = left (Ok a) v b l g (replicate n.scratch 0) o ≡ x
+EndsIn n x (Err e) v b l g o = exit n (err (numbers e)) ≡ x
+
+-- an entry whose exit is x comes to the answer a: the exit stands in the tables and the output; or it refuses, and they are left free
+pub record Ends (n : Lent) (x : Exit) (a : Answer) (v b l g o : List ℕ) : Type 0 where
+  pub is : EndsIn n x a v b l g o
+
+-- the tables and the output were left as they were
+pub record Kept (v b l g o v' b' l' g' o' : List ℕ) : Type 0 where
+  pub visited : v' ≡ v
+  pub blocks : b' ≡ b
+  pub links : l' ≡ l
+  pub gaps : g' ≡ g
+  pub output : o' ≡ o
+
+-- the answer a is settled: what was accepted stays, and a refusal zeroes the tables and the output
+pub record Settled (a : Answer) (v b l g o v' b' l' g' o' : List ℕ) : Type 0 where
+  pub kept : OnOk a (Kept v b l g o v' b' l' g' o')
+  pub zeroed : OnErr a (Zeroed v b l g v' b' l' g')
+  pub output_zeroed : OnErr a (o' ≡ replicate (length o) 0)

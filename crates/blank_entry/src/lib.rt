@@ -1,18 +1,17 @@
 // The entry `blank`: the clear bytes of the recording become 0.
 #![tactic(auto)]
 
-ghost use Rattle.std.specs.Prelude.{◌≡◌, [], length, replicate};
+ghost use Rattle.std.specs.Prelude.{◌≡◌, [], length};
 ghost use Rattle.mdf4.specs.Answers.{blank_exit, blank_recording};
-ghost use Rattle.answers.specs.Entries.{left};
+ghost use Rattle.answers.specs.Entries.{left, Ends};
 ghost use Rattle.file_layout.specs.Tables.{lent};
 
-use answers::Answer;
+use answers::{Accepted, settle};
 use blanking::zero_ranges;
-use clear_layout::{Clearable, lay_clear};
-use file_layout::zero_tables;
-use tables::zero_words;
+use blocks::error::MdfError;
+use clear_layout::lay_clear;
 
-// The blanker, with the scratch table left free.
+// The blanker. A refusal leaves the tables and the scratch table free.
 fn blank_ranges(
     data: &mut [u8],
     visited: &mut [u64],
@@ -20,34 +19,17 @@ fn blank_ranges(
     links: &mut [u64],
     gaps: &mut [u64],
     scratch: &mut [u64],
-) -> Answer
-    ensures exit { left result visited.new blocks.new links.new gaps.new (replicate (length scratch.old) 0) [] ≡ blank_exit (lent visited.old blocks.old links.old gaps.old (length scratch.old) 0) «data».old }
+) -> Result<Accepted, MdfError>
+    ensures exit { Ends (lent visited.old blocks.old links.old gaps.old (length scratch.old) 0) (blank_exit (lent visited.old blocks.old links.old gaps.old (length scratch.old) 0) «data».old) result visited.new blocks.new links.new gaps.new [] }
     ensures recording { «data».new ≡ blank_recording (lent visited.old blocks.old links.old gaps.old (length scratch.old) 0) «data».old }
 {
-    let laid = lay_clear(data, visited, blocks, links, gaps, scratch);
-    match laid {
-        Clearable::Tables {
-            visited: v,
-            blocks: b,
-            links: l,
-            gaps: g,
-            scratch: rows,
-        } => {
-            zero_ranges(scratch, rows, data);
-            Answer::Accepted {
-                visited: v,
-                blocks: b,
-                links: l,
-                gaps: g,
-                bytes: 0,
-                total: 0,
-            }
-        }
-        Clearable::Refused(e) => {
-            zero_tables(visited, blocks, links, gaps);
-            Answer::Refused(e)
-        }
-    }
+    let cleared = lay_clear(data, visited, blocks, links, gaps, scratch)?;
+    zero_ranges(scratch, cleared.scratch, data);
+    Ok(Accepted {
+        rows: cleared.rows,
+        bytes: 0,
+        total: 0,
+    })
 }
 
 // The blanker (document 02, order 5): the clear bytes of the recording become 0, and no other byte is changed; where it refuses, none is.
@@ -59,11 +41,11 @@ pub fn blank(
     links: &mut [u64],
     gaps: &mut [u64],
     scratch: &mut [u64],
-) -> Answer
+) -> Result<Accepted, MdfError>
     ensures exit { left result visited.new blocks.new links.new gaps.new scratch.new [] ≡ blank_exit (lent visited.old blocks.old links.old gaps.old (length scratch.old) 0) «data».old }
     ensures recording { «data».new ≡ blank_recording (lent visited.old blocks.old links.old gaps.old (length scratch.old) 0) «data».old }
 {
     let answer = blank_ranges(data, visited, blocks, links, gaps, scratch);
-    zero_words(scratch);
-    answer
+    scratch.fill(0);
+    settle(answer, visited, blocks, links, gaps, &mut [])
 }

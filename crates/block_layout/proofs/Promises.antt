@@ -6,6 +6,7 @@ use mathlib.Core.Path.{◌≡◌, refl, sym, ap, ◌∙◌}
 use mathlib.Core.List.{List, []}
 use Prim.Native.Nat.{ℕ}
 use lib.ListN.{length, take, replicate}
+use Rattle.std.specs.Prelude.{Ok, Err}
 use Rattle.mdf4.specs.Bytes.{Range}
 use Rattle.mdf4.specs.Act.{Refusal, Out, ok, err}
 use Rattle.mdf4.specs.Clear.{clr_bytes}
@@ -20,9 +21,7 @@ use Rattle.mdf4.proofs.Demand3 as law
 use Rattle.mdf4.proofs.Blanked as blanked
 use Rattle.blocks.specs.Errors.{numbers}
 use Rattle.blocks.proofs.Errors as errors
-use Rattle.answers.specs.declared.Answer.{Answer}
-use Rattle.answers.specs.declared.Answer.TheVariants.{Accepted, Refused}
-use Rattle.answers.specs.Entries.{answered, exit_with, left}
+use Rattle.answers.specs.Entries.{Answer, answered, exit_with, left}
 
 answer_is : (a : Answer) (v b l g s o : List ℕ) → (left a v b l g s o).answer ≡ answered a
 unfolding exit_with
@@ -225,5 +224,5 @@ preview_then_blank n r a v b l g s o c e p a' v' b' l' g' s' q =
 
 -- No call answers 8 (document 02, order 2).
 pub never_8 : (a : Answer) {e : Refusal} → answered a ≡ err e → e.number ≡ 8 → ⊥
-never_8 (Accepted v b l g n t) p q = never p
-never_8 (Refused x) {e} p q = let z : numbers x ≡ e = cc in errors.never_8 x (ap (λ (y : Refusal). y.number) z ∙ q)
+never_8 (Ok a) p q = never p
+never_8 (Err x) {e} p q = let z : numbers x ≡ e = cc in errors.never_8 x (ap (λ (y : Refusal). y.number) z ∙ q)

@@ -4,18 +4,37 @@
 
 ghost use Rattle.std.specs.Prelude.{◌≡◌, [], length};
 ghost use Rattle.mdf4.specs.Answers.{layout_exit, to_text_exit, to_tree_exit};
-ghost use Rattle.answers.specs.Entries.{left, Fits};
+ghost use Rattle.answers.specs.Entries.{left, Ends, Fits};
 ghost use Rattle.file_layout.specs.Tables.{lent};
 
-pub use answers::Answer;
-use answers::{fit, refuse};
+pub use answers::Accepted;
+use answers::{fit, settle};
 pub use blank_entry::blank;
-use file_layout::{Laid, lay, zero_tables};
+use blocks::error::MdfError;
+pub use file_layout::Rows;
+use file_layout::lay;
 pub use list_entry::clear_list;
 pub use preview_entry::preview;
-use tables::zero_bytes;
 use to_text::put_text;
-use to_tree::{Tree, put_tree};
+use to_tree::put_tree;
+
+// The layout. A refusal leaves the tables free.
+fn lay_out(
+    data: &[u8],
+    visited: &mut [u64],
+    blocks: &mut [u64],
+    links: &mut [u64],
+    gaps: &mut [u64],
+) -> Result<Accepted, MdfError>
+    ensures { Ends (lent visited.old blocks.old links.old gaps.old 0 0) (layout_exit (lent visited.old blocks.old links.old gaps.old 0 0) «data».now) result visited.new blocks.new links.new gaps.new [] }
+{
+    let rows = lay(data, visited, blocks, links, gaps)?;
+    Ok(Accepted {
+        rows,
+        bytes: 0,
+        total: 0,
+    })
+}
 
 // The layout: its rows, links and gaps in the four tables.
 pub fn layout(
@@ -24,29 +43,38 @@ pub fn layout(
     blocks: &mut [u64],
     links: &mut [u64],
     gaps: &mut [u64],
-) -> Answer
+) -> Result<Accepted, MdfError>
     ensures { left result visited.new blocks.new links.new gaps.new [] [] ≡ layout_exit (lent visited.old blocks.old links.old gaps.old 0 0) «data».now }
 {
-    let laid = lay(data, visited, blocks, links, gaps);
-    match laid {
-        Laid::Tables {
-            visited: v,
-            blocks: b,
-            links: l,
-            gaps: g,
-        } => Answer::Accepted {
-            visited: v,
-            blocks: b,
-            links: l,
-            gaps: g,
-            bytes: 0,
-            total: 0,
-        },
-        Laid::Refused(e) => {
-            zero_tables(visited, blocks, links, gaps);
-            Answer::Refused(e)
-        }
-    }
+    let answer = lay_out(data, visited, blocks, links, gaps);
+    settle(answer, visited, blocks, links, gaps, &mut [])
+}
+
+// The listing. A refusal leaves the tables and the output free.
+fn list(
+    data: &[u8],
+    visited: &mut [u64],
+    blocks: &mut [u64],
+    links: &mut [u64],
+    gaps: &mut [u64],
+    out: &mut [u8],
+) -> Result<Accepted, MdfError>
+    ensures exit { Ends (lent visited.old blocks.old links.old gaps.old 0 (length out.old)) (to_text_exit (lent visited.old blocks.old links.old gaps.old 0 (length out.old)) «data».now) result visited.new blocks.new links.new gaps.new out.new }
+    ensures fits { Fits result (length out.old) }
+{
+    out.fill(0);
+    let rows = lay(data, visited, blocks, links, gaps)?;
+    let bytes = put_text(
+        out,
+        data,
+        blocks,
+        rows.blocks,
+        links,
+        rows.links,
+        gaps,
+        rows.gaps,
+    );
+    fit(rows, bytes, out)
 }
 
 // The listing: its text in the output.
@@ -57,24 +85,30 @@ pub fn to_text(
     links: &mut [u64],
     gaps: &mut [u64],
     out: &mut [u8],
-) -> Answer
+) -> Result<Accepted, MdfError>
     ensures exit { left result visited.new blocks.new links.new gaps.new [] out.new ≡ to_text_exit (lent visited.old blocks.old links.old gaps.old 0 (length out.old)) «data».now }
     ensures fits { Fits result (length out.old) }
 {
-    zero_bytes(out);
-    let laid = lay(data, visited, blocks, links, gaps);
-    match laid {
-        Laid::Tables {
-            visited: v,
-            blocks: b,
-            links: l,
-            gaps: g,
-        } => {
-            let bytes = put_text(out, data, blocks, b, links, l, gaps, g);
-            fit(visited, v, blocks, b, links, l, gaps, g, out, bytes)
-        }
-        Laid::Refused(e) => refuse(visited, blocks, links, gaps, out, e),
-    }
+    let answer = list(data, visited, blocks, links, gaps, out);
+    settle(answer, visited, blocks, links, gaps, out)
+}
+
+// The tree. A refusal leaves the tables and the output free.
+fn draw(
+    data: &[u8],
+    visited: &mut [u64],
+    blocks: &mut [u64],
+    links: &mut [u64],
+    gaps: &mut [u64],
+    out: &mut [u8],
+) -> Result<Accepted, MdfError>
+    ensures exit { Ends (lent visited.old blocks.old links.old gaps.old 0 (length out.old)) (to_tree_exit (lent visited.old blocks.old links.old gaps.old 0 (length out.old)) «data».now) result visited.new blocks.new links.new gaps.new out.new }
+    ensures fits { Fits result (length out.old) }
+{
+    out.fill(0);
+    let rows = lay(data, visited, blocks, links, gaps)?;
+    let bytes = put_tree(data, blocks, rows.blocks, links, rows.links, out)?;
+    fit(rows, bytes, out)
 }
 
 // The tree: its text in the output, and a mark in each block row that was printed.
@@ -85,25 +119,10 @@ pub fn to_tree(
     links: &mut [u64],
     gaps: &mut [u64],
     out: &mut [u8],
-) -> Answer
+) -> Result<Accepted, MdfError>
     ensures exit { left result visited.new blocks.new links.new gaps.new [] out.new ≡ to_tree_exit (lent visited.old blocks.old links.old gaps.old 0 (length out.old)) «data».now }
     ensures fits { Fits result (length out.old) }
 {
-    zero_bytes(out);
-    let laid = lay(data, visited, blocks, links, gaps);
-    match laid {
-        Laid::Tables {
-            visited: v,
-            blocks: b,
-            links: l,
-            gaps: g,
-        } => {
-            let tree = put_tree(data, blocks, b, links, l, out);
-            match tree {
-                Tree::Text(bytes) => fit(visited, v, blocks, b, links, l, gaps, g, out, bytes),
-                Tree::Refused(e) => refuse(visited, blocks, links, gaps, out, e),
-            }
-        }
-        Laid::Refused(e) => refuse(visited, blocks, links, gaps, out, e),
-    }
+    let answer = draw(data, visited, blocks, links, gaps, out);
+    settle(answer, visited, blocks, links, gaps, out)
 }

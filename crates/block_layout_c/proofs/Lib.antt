@@ -1,3 +1,2 @@
 -- Laws that the proofs of these functions cite.
-pub mod Storing
 pub mod Exits

@@ -8,37 +8,31 @@ ghost use Rattle.file_layout.specs.Tables.{lent};
 ghost use Rattle.answers.specs.Entries.{answered, exit_with};
 ghost use Rattle.block_layout_c.specs.Words.{answer_words, stored};
 
-use block_layout::Answer;
+use block_layout::Accepted;
+use blocks::error::MdfError;
 
 // Words of an answer.
 const ANSWER_WORDS: usize = 10;
 
 // The words of an answer: number (0 where it is accepted), place, a and b; then the rows of the visited, block, link and gap tables
 // and the bytes of the output in use, or the number of the preview's counts, and the counts' total.
-fn words_of(answer: Answer) -> [u64; 10]
+fn words_of(answer: Result<Accepted, MdfError>) -> [u64; 10]
     ensures { result ≡ answer_words (answered answer) }
 {
     match answer {
-        Answer::Accepted {
-            visited,
-            blocks,
-            links,
-            gaps,
-            bytes,
-            total,
-        } => [
+        Ok(a) => [
             0,
             0,
             0,
             0,
-            visited as u64,
-            blocks as u64,
-            links as u64,
-            gaps as u64,
-            bytes as u64,
-            total,
+            a.rows.visited as u64,
+            a.rows.blocks as u64,
+            a.rows.links as u64,
+            a.rows.gaps as u64,
+            a.bytes as u64,
+            a.total,
         ],
-        Answer::Refused(e) => {
+        Err(e) => {
             let n = e.numbers();
             [n.number, n.place, n.a, n.b, 0, 0, 0, 0, 0, 0]
         }
@@ -46,18 +40,11 @@ fn words_of(answer: Answer) -> [u64; 10]
 }
 
 // The words of an answer go into the words lent for it: those that fit, and what is lent behind the tenth is left as it was.
-fn store_answer(words: &mut [u64], answer: Answer)
+fn store_answer(words: &mut [u64], answer: Result<Accepted, MdfError>)
     ensures { words.new ≡ stored (answer_words (answered answer)) words.old }
 {
-    let own = words_of(answer);
-    let mut i: usize = 0;
-    while i < words.len() {
-        if ANSWER_WORDS <= i {
-            return;
-        }
-        words[i] = own[i];
-        i += 1;
-    }
+    let n = ANSWER_WORDS.min(words.len());
+    words[..n].copy_from_slice(&words_of(answer)[..n]);
 }
 
 // The entry `layout`.

@@ -4,10 +4,10 @@ use Rattle.mdf4.specs.Act.{Refusal, err}
 use Rattle.block_layout_c.specs.Words.{answer_words}
 use Rattle.block_layout_c.proofs.words_of.Goals as goal
 
-pub returns-in-Accepted : goal.returns-in-Accepted
+pub returns-in-Ok : goal.returns-in-Ok
 unfolding answer_words
-returns-in-Accepted c = rw c.in-Accepted.is
+returns-in-Ok c = rw c.in-Ok.is
 
-pub returns-in-Refused : goal.returns-in-Refused
+pub returns-in-Err : goal.returns-in-Err
 unfolding answer_words
-returns-in-Refused c = rw c.in-Refused.is (ap (λ (x : Refusal). answer_words (err x)) c.numbers-n.ensures)
+returns-in-Err c = rw c.in-Err.is (ap (λ (x : Refusal). answer_words (err x)) c.numbers-n.ensures)
