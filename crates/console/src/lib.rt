@@ -3,111 +3,104 @@
 // that the program `programs` runs the same code on the files beside it.
 #![tactic(auto)]
 
-use block_layout::Answer;
+use block_layout::Accepted;
 use blocks::error::MdfError;
 use reading::read_full;
 use std::io;
 use std::io::Read;
 
-// The first bytes of an output; an entry answers no more than it was lent.
-fn say_output(rt: &impl Print, out: &[u8], bytes: usize) -> io::Result<()> {
-    if bytes <= out.len() {
-        rt.write_all(&out[..bytes])?;
-    }
-    Ok(())
+// Bytes of the longest recording and of the output, and words of each table.
+const BYTES: usize = 65536;
+
+const WORDS: usize = 8192;
+
+// What an entry is lent beside the recording.
+#[derive(Drop)]
+struct Lent {
+    visited: [u64; WORDS],
+    blocks: [u64; WORDS],
+    links: [u64; WORDS],
+    gaps: [u64; WORDS],
+    scratch: [u64; WORDS],
+    out: [u8; BYTES],
 }
 
-fn say_too_long(rt: &impl Print) -> io::Result<()> {
-    println!(rt; "too long")
-}
-
-// Document 01's four numbers of a refusal.
-fn say_refused(rt: &impl Print, e: MdfError) -> io::Result<()> {
-    let r = e.numbers();
-    println!(rt; "refused {} {} {} {}", r.number, r.place, r.a, r.b)
-}
-
-fn say(rt: &impl Print, answer: Answer, out: &[u8]) -> io::Result<()> {
+// Prints the output that an entry left, of which it answers no more than it was lent, or document 01's four numbers of its refusal.
+fn say(rt: &impl Print, answer: Result<Accepted, MdfError>, out: &[u8]) -> io::Result<()> {
     match answer {
-        Answer::Accepted {
-            visited: _,
-            blocks: _,
-            links: _,
-            gaps: _,
-            bytes,
-            total: _,
-        } => say_output(rt, out, bytes),
-        Answer::Refused(e) => say_refused(rt, e),
+        Ok(a) => rt.write_all(&out[..a.bytes.min(out.len())]),
+        Err(e) => {
+            let r = e.numbers();
+            println!(rt; "refused {} {} {} {}", r.number, r.place, r.a, r.b)
+        }
     }
+}
+
+// Prints what the entry makes of the recording that is read.
+fn show<R: Read, E: FnOnce(&[u8], &mut Lent) -> Result<Accepted, MdfError>>(
+    rt: &impl Print,
+    input: &mut R,
+    entry: E,
+) -> io::Result<()>
+    requires { E.IsAlwaysCallable entry }
+{
+    // a byte more than the longest, so that a longer one is seen
+    let mut data = [0u8; BYTES + 1];
+    let n = read_full(input, &mut data)?;
+    if BYTES < n {
+        return println!(rt; "too long");
+    }
+    let mut lent = Lent {
+        visited: [0; WORDS],
+        blocks: [0; WORDS],
+        links: [0; WORDS],
+        gaps: [0; WORDS],
+        scratch: [0; WORDS],
+        out: [0; BYTES],
+    };
+    let answer = entry(&data[..n], &mut lent);
+    say(rt, answer, &lent.out)
 }
 
 // Document 01's listing program.
 pub fn listing<R: Read>(rt: &impl Print, input: &mut R) -> io::Result<()> {
-    let mut data = [0u8; 65537];
-    let n = read_full(input, &mut data)?;
-    if 65536 < n {
-        return say_too_long(rt);
-    }
-    let mut visited = [0u64; 8192];
-    let mut blocks = [0u64; 8192];
-    let mut links = [0u64; 8192];
-    let mut gaps = [0u64; 8192];
-    let mut out = [0u8; 65536];
-    let answer = block_layout::to_text(
-        &data[..n],
-        &mut visited,
-        &mut blocks,
-        &mut links,
-        &mut gaps,
-        &mut out,
-    );
-    say(rt, answer, &out)
+    show(rt, input, |data, t| {
+        block_layout::to_text(
+            data,
+            &mut t.visited,
+            &mut t.blocks,
+            &mut t.links,
+            &mut t.gaps,
+            &mut t.out,
+        )
+    })
 }
 
 // The same of the tree.
 pub fn tree<R: Read>(rt: &impl Print, input: &mut R) -> io::Result<()> {
-    let mut data = [0u8; 65537];
-    let n = read_full(input, &mut data)?;
-    if 65536 < n {
-        return say_too_long(rt);
-    }
-    let mut visited = [0u64; 8192];
-    let mut blocks = [0u64; 8192];
-    let mut links = [0u64; 8192];
-    let mut gaps = [0u64; 8192];
-    let mut out = [0u8; 65536];
-    let answer = block_layout::to_tree(
-        &data[..n],
-        &mut visited,
-        &mut blocks,
-        &mut links,
-        &mut gaps,
-        &mut out,
-    );
-    say(rt, answer, &out)
+    show(rt, input, |data, t| {
+        block_layout::to_tree(
+            data,
+            &mut t.visited,
+            &mut t.blocks,
+            &mut t.links,
+            &mut t.gaps,
+            &mut t.out,
+        )
+    })
 }
 
 // The same of the clear list, whose CLR bytes are printed.
 pub fn clear<R: Read>(rt: &impl Print, input: &mut R) -> io::Result<()> {
-    let mut data = [0u8; 65537];
-    let n = read_full(input, &mut data)?;
-    if 65536 < n {
-        return say_too_long(rt);
-    }
-    let mut visited = [0u64; 8192];
-    let mut blocks = [0u64; 8192];
-    let mut links = [0u64; 8192];
-    let mut gaps = [0u64; 8192];
-    let mut scratch = [0u64; 8192];
-    let mut out = [0u8; 65536];
-    let answer = block_layout::clear_list(
-        &data[..n],
-        &mut visited,
-        &mut blocks,
-        &mut links,
-        &mut gaps,
-        &mut scratch,
-        &mut out,
-    );
-    say(rt, answer, &out)
+    show(rt, input, |data, t| {
+        block_layout::clear_list(
+            data,
+            &mut t.visited,
+            &mut t.blocks,
+            &mut t.links,
+            &mut t.gaps,
+            &mut t.scratch,
+            &mut t.out,
+        )
+    })
 }

@@ -2,206 +2,117 @@
 // record that is answered otherwise, and how many there are.
 #![tactic(auto)]
 
-ghost use Rattle.std.specs.Prelude.{◌+◌, ◌≤◌, length, IfOk};
-ghost use Rattle.leaves.specs.Onward.{Onward};
+ghost use Rattle.std.specs.Prelude.{◌+◌, ◌<◌, length, IfSome};
 
 use blocks::data_type::put_data_type;
-use blocks::identification_block::{IdentificationBlock, VersionRead};
+use blocks::identification_block::IdentificationBlock;
+use fmt::{Page, lossy_len, signed16};
 use little_endian::{read_u16, read_u32, read_u64};
 use reading::read_full;
 use std::io;
+use utf8::{before_nul, count_chars, is_utf8, is_white, trim, trim_end, trim_nuls};
 
-fn put_bool(out: &mut [u8], b: bool) -> usize {
-    if b {
-        fmt::put_bytes(out, 0, b"true")
-    } else {
-        fmt::put_bytes(out, 0, b"false")
-    }
+// A record: the kind of its answer, what is asked about, and what Rust answered.
+#[derive(Clone, Copy)]
+struct Record<'a> {
+    kind: u8,
+    input: &'a [u8],
+    answer: &'a [u8],
 }
 
-// Texts, by their kind: the input stands in b from `from` up to `end`.
-fn put_text(out: &mut [u8], kind: u8, b: &[u8], from: usize, end: usize) -> usize
-    requires { (from ≤ end) × (end ≤ length b.now) }
-{
-    if kind == 1 {
-        return fmt::put_lossy(out, 0, b, from, end);
-    }
-    if kind == 2 {
-        return fmt::put_dec(out, 0, utf8::count_chars(b, from, end) as u64);
-    }
-    if kind == 3 {
-        let t = utf8::trim(b, from, end);
-        return fmt::put_lossy(out, 0, b, t.from, t.to);
-    }
-    if kind == 4 {
-        let to = utf8::trim_end(b, from, end);
-        return fmt::put_lossy(out, 0, b, from, to);
-    }
-    if kind == 5 {
-        return put_bool(out, utf8::is_utf8(b, from, end));
-    }
-    put_more_text(out, kind, b, from, end)
+fn put_bool(page: &mut Page<'_>, b: bool) {
+    page.put_bytes(if b { b"true" } else { b"false" });
 }
 
-fn put_more_text(out: &mut [u8], kind: u8, b: &[u8], from: usize, end: usize) -> usize
-    requires { (from ≤ end) × (end ≤ length b.now) }
-{
-    if kind == 6 {
-        let t = utf8::trim_nuls(b, from, end);
-        return fmt::put_lossy(out, 0, b, t.from, t.to);
-    }
-    if kind == 7 {
-        let to = utf8::before_nul(b, from, end);
-        return fmt::put_lossy(out, 0, b, from, to);
-    }
-    if kind == 8 {
-        return fmt::put_preview(out, 0, b, from, end, 48, false);
-    }
-    if kind == 9 {
-        return fmt::put_preview(out, 0, b, from, end, 48, true);
-    }
-    if kind == 10 {
-        return fmt::put_dec(out, 0, fmt::lossy_len(b, from, end));
-    }
-    fmt::put_left(out, 0, &b[from..end], 28)
-}
-
-fn put_version(out: &mut [u8], b: &[u8], from: usize, end: usize) -> usize
-    requires { (from ≤ end) × (end ≤ length b.now) }
-{
-    match IdentificationBlock::parse_block_version(b, from, end) {
-        VersionRead::Number(n) => fmt::put_dec(out, 0, n as u64),
-        VersionRead::Refused(e) => {
+fn put_version(page: &mut Page<'_>, text: &[u8]) {
+    match IdentificationBlock::parse_block_version(text) {
+        Ok(version) => page.put_dec(version as u64),
+        Err(e) => {
             let r = e.numbers();
-            fmt::put_format(out, 0, b"% % % %", &[r.number, r.place, r.a, r.b])
+            page.put_format(b"% % % %", &[r.number, r.place, r.a, r.b]);
         }
     }
 }
 
-// Numbers, by their kind.
-fn put_number(out: &mut [u8], kind: u8, b: &[u8], from: usize, end: usize) -> usize
-    requires { (from ≤ end) × (end ≤ length b.now) }
+// Texts, by their kind.
+fn put_text(page: &mut Page<'_>, kind: u8, text: &[u8]) {
+    match kind {
+        1 => page.put_lossy(text),
+        2 => page.put_dec(count_chars(text) as u64),
+        3 => page.put_lossy(trim(text)),
+        4 => page.put_lossy(trim_end(text)),
+        5 => put_bool(page, is_utf8(text)),
+        6 => page.put_lossy(trim_nuls(text)),
+        7 => page.put_lossy(before_nul(text)),
+        8 => page.put_preview(text, 48, false),
+        9 => page.put_preview(text, 48, true),
+        10 => page.put_dec(lossy_len(text)),
+        _ => page.put_left(text, 28),
+    }
+}
+
+// Numbers, by their kind, of as many bytes as they have.
+fn put_number(page: &mut Page<'_>, kind: u8, b: &[u8]) {
+    match (kind, b.len()) {
+        (12, 8) => page.put_format(b"%|!|*|&|^|~|$", &[read_u64(b, 0); 7]),
+        (13, 2) => page.put_i16(signed16(read_u16(b, 0))),
+        (14, 4) => put_bool(page, is_white(read_u32(b, 0))),
+        (15, 1) => put_data_type(page, b[0]),
+        (16, _) => put_version(page, b),
+        _ => {}
+    }
+}
+
+impl Record<'_> {
+    fn is_answered(&self) -> bool {
+        let mut out = [0u8; 1024];
+        let mut page = Page::new(&mut out);
+        if self.kind < 12 {
+            put_text(&mut page, self.kind, self.input);
+        } else {
+            put_number(&mut page, self.kind, self.input);
+        }
+        let n = page.at;
+        out.get(..n) == Some(self.answer)
+    }
+}
+
+// The record at the front of the records, and those behind it; none where its bytes don't.
+fn next(b: &[u8]) -> Option<(Record<'_>, &[u8])>
+    ensures { IfSome result (λ it. length it.1.now < length b.now) }
 {
-    let n = end - from;
-    if kind == 12 {
-        if n == 8 {
-            let x = read_u64(b, from);
-            return fmt::put_format(out, 0, b"%|!|*|&|^|~|$", &[x, x, x, x, x, x, x]);
-        }
-    }
-    if kind == 13 {
-        if n == 2 {
-            return fmt::put_i16(out, 0, fmt::signed16(read_u16(b, from)));
-        }
-    }
-    if kind == 14 {
-        if n == 4 {
-            return put_bool(out, utf8::is_white(read_u32(b, from)));
-        }
-    }
-    if kind == 16 {
-        return put_version(out, b, from, end);
-    }
-    if kind == 15 {
-        if n == 1 {
-            return put_data_type(out, 0, b[from]);
-        }
-    }
-    0
-}
-
-fn put_answer(out: &mut [u8], kind: u8, b: &[u8], from: usize, end: usize) -> usize
-    requires { (from ≤ end) × (end ≤ length b.now) }
-{
-    if kind < 12 {
-        put_text(out, kind, b, from, end)
-    } else {
-        put_number(out, kind, b, from, end)
-    }
-}
-
-// Whether the first n bytes of out are those of b from `from` up to `end`.
-fn same_bytes(out: &[u8], n: usize, b: &[u8], from: usize, end: usize) -> bool
-    requires { (from ≤ end) × (end ≤ length b.now) }
-{
-    if n != end - from {
-        return false;
-    }
-    if out.len() < n {
-        return false;
-    }
-    let mut i = 0;
-    while i < n {
-        if out[i] != b[from + i] {
-            return false;
-        }
-        i += 1;
-    }
-    true
-}
-
-fn size_at(b: &[u8], at: usize) -> usize
-    requires { at + 2 ≤ length b.now }
-    ensures { result ≤ 65535 }
-{
-    read_u16(b, at) as usize
-}
-
-// What stands at a place of the records: a record, with the place behind it and whether the answer is the recorded one; or none.
-#[derive(Drop)]
-pub enum Replayed {
-    Record { next: usize, same: bool },
-    Nothing,
-}
-
-fn replay_at(b: &[u8], at: usize) -> Replayed
-    requires { at ≤ length b.now }
-    ensures { Onward at (length b.now) result }
-{
-    if b.len() - at < 5 {
-        return Replayed::Nothing;
-    }
-    let kind = b[at];
-    let n = size_at(b, at + 1);
-    let m = size_at(b, at + 3);
-    let from = at + 5;
-    if b.len() - from < n + m {
-        return Replayed::Nothing;
-    }
-    let mid = from + n;
-    let next = mid + m;
-    let mut out = [0u8; 1024];
-    let k = put_answer(&mut out, kind, b, from, mid);
-    let same = same_bytes(&out, k, b, mid, next);
-    Replayed::Record { next, same }
+    let (&[kind, n0, n1, m0, m1], b) = b.split_first_chunk::<5>()?;
+    let (input, b) = b.split_at_checked(u16::from_le_bytes([n0, n1]) as usize)?;
+    let (answer, b) = b.split_at_checked(u16::from_le_bytes([m0, m1]) as usize)?;
+    Some((
+        Record {
+            kind,
+            input,
+            answer,
+        },
+        b,
+    ))
 }
 
 fn say(rt: &impl Print, place: usize) -> io::Result<()> {
     println!(rt; "differs: the record at {place}")
 }
 
-// How many records at a place differ, 0 or 1.
-fn note(rt: &impl Print, place: usize, same: bool) -> io::Result<usize>
-    ensures { IfOk result (λ n. n ≤ 1) }
-{
-    if same {
-        return Ok(0);
-    }
-    say(rt, place)?;
-    Ok(1)
-}
-
 fn replay(rt: &impl Print, b: &[u8]) -> io::Result<()> {
-    let mut at = 0;
+    let mut rest = b;
     let mut read: usize = 0;
     let mut differ: usize = 0;
-    while at < b.len() {
-        let Replayed::Record { next, same } = replay_at(b, at) else {
-            return say(rt, at);
+    while !rest.is_empty() {
+        let place = b.len() - rest.len();
+        let Some((record, after)) = next(rest) else {
+            return say(rt, place);
         };
-        differ += note(rt, at, same)?;
+        if !record.is_answered() {
+            say(rt, place)?;
+            differ += 1;
+        }
         read += 1;
-        at = next;
+        rest = after;
     }
     println!(rt; "{read} records, {differ} differ")
 }

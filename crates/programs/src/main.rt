@@ -7,42 +7,34 @@ use std::fs::File;
 use std::io;
 use std::rt::Files;
 
-const LISTING: u8 = 0;
-
-const TREE: u8 = 1;
-
-const CLEAR: u8 = 2;
-
 // What a program prints of the file named.
-fn run(rt: &(impl Files + Print), path: &[u8], program: u8) -> io::Result<()> {
+fn run<R: Files + Print, P: FnOnce(&R, &mut R::File) -> io::Result<()>>(
+    rt: &R,
+    path: &[u8],
+    program: P,
+) -> io::Result<()>
+    requires { P.IsAlwaysCallable program }
+{
     let Ok(name) = str::from_utf8(path) else {
         return println!(rt; "not opened");
     };
     let Ok(mut file) = File::open(rt, name) else {
         return println!(rt; "not opened");
     };
-    if program == LISTING {
-        return console::listing(rt, &mut file);
-    }
-    if program == TREE {
-        return console::tree(rt, &mut file);
-    }
-    if program == CLEAR {
-        return console::clear(rt, &mut file);
-    }
-    Ok(())
+    program(rt, &mut file)
 }
 
 // The three programs on the file that an argument names.
 fn programs(rt: &(impl Files + Print), path: &[u8]) -> io::Result<()> {
     rt.write_all(path)?;
     rt.write_all(b"\n")?;
-    run(rt, path, LISTING)?;
-    run(rt, path, TREE)?;
-    run(rt, path, CLEAR)
+    run(rt, path, console::listing)?;
+    run(rt, path, console::tree)?;
+    run(rt, path, console::clear)
 }
 
 fn main(rt: HostRuntime) -> io::Result<()> {
+    // `env::args` needs the heap
     for i in 1..usize::MAX {
         let mut path = [0u8; 4096];
         match rt.arg(i, &mut path) {

@@ -10,13 +10,13 @@ use std::io::Read;
 pub fn read_full<R: Read>(input: &mut R, buf: &mut [u8]) -> io::Result<usize>
     ensures { IfOk result (λ n. n ≤ length buf.old) }
 {
+    // `read_exact` doesn't say how many bytes there were where the input ends before, and `read_to_end` needs the heap
     let mut n = 0;
     while n < buf.len() {
-        let more = input.read(&mut buf[n..])?;
-        if more == 0 {
-            return Ok(n);
+        match input.read(&mut buf[n..])? {
+            0 => break,
+            more => n += more,
         }
-        n += more;
     }
     Ok(n)
 }

@@ -1,552 +1,277 @@
 // The calls of the entries for a recording: with tables, counts and output lent exactly, with more than enough, and with each one short.
-ghost use Rattle.std.specs.Prelude.{◌≤◌, length};
-ghost use Rattle.replay.specs.Parts.{Ordered};
-
-use crate::clear::{COPY, copy_bytes, is_blanked};
-use crate::compare::{same_bytes, settled};
+use crate::clear::{COPY, is_blanked};
+use crate::compare::is_settled;
 use crate::recording::{
-    BLANK, BLOCKS, CLEAR_LIST, COUNTS, ENTRIES, Ends, Entry, GAPS, LAYOUT, LINKS, Lent, OUT,
-    PREVIEW, SCRATCH, TO_TEXT, TO_TREE, VISITED, Want, entry_of, exact, is_clearing, plenty,
-    refusal,
+    BLOCKS, COUNTS, ENTRIES, Entry, GAPS, LINKS, OUT, Places, Recording, SCRATCH, Sizes, VISITED,
 };
-use block_layout::Answer;
+use block_layout::Accepted;
+use blocks::error::{MdfError, Refusal};
 use tables::{BLOCK_ROW_WORDS, PAIR_WORDS};
 
 // What stands in a lent word before a call.
 const ONES: u64 = 0xffff_ffff_ffff_ffff;
 
-// The entries but the blanker.
-fn enter(
-    number: u8,
-    data: &[u8],
-    visited: &mut [u64],
-    blocks: &mut [u64],
-    links: &mut [u64],
-    gaps: &mut [u64],
-    scratch: &mut [u64],
-    counts: &mut [u64],
-    out: &mut [u8],
-) -> Answer {
-    if number == CLEAR_LIST {
-        return block_layout::clear_list(data, visited, blocks, links, gaps, scratch, out);
-    }
-    if number == PREVIEW {
-        return block_layout::preview(data, visited, blocks, links, gaps, scratch, counts);
-    }
-    if number == TO_TEXT {
-        return block_layout::to_text(data, visited, blocks, links, gaps, out);
-    }
-    if number == TO_TREE {
-        return block_layout::to_tree(data, visited, blocks, links, gaps, out);
-    }
-    block_layout::layout(data, visited, blocks, links, gaps)
+// What an entry is lent beside the recording.
+#[derive(Drop)]
+pub struct Lent<'a> {
+    pub visited: &'a mut [u64],
+    pub blocks: &'a mut [u64],
+    pub links: &'a mut [u64],
+    pub gaps: &'a mut [u64],
+    pub scratch: &'a mut [u64],
+    pub counts: &'a mut [u64],
+    pub out: &'a mut [u8],
 }
 
-// Whether the blanker left what it should: the clear ranges zero, or after a refusal the recording as it was.
-fn blanked_or_kept(left: &[u8], data: &[u8], b: &[u8], ends: Ends, want: Want) -> bool {
-    if want.number != 0 {
-        return same_bytes(left, data);
-    }
-    is_blanked(left, data, b, ends)
+// What is lent to the entries by its kind.
+#[derive(Clone, Copy)]
+enum Part {
+    Visited,
+    Blocks,
+    Links,
+    Gaps,
+    Scratch,
+    Counts,
+    Out,
 }
 
-// The blanker, on this copy.
-fn enter_blank(
-    copy: &mut [u8],
-    data: &[u8],
-    visited: &mut [u64],
-    blocks: &mut [u64],
-    links: &mut [u64],
-    gaps: &mut [u64],
-    scratch: &mut [u64],
-) -> Answer {
-    copy_bytes(copy, data);
-    block_layout::blank(copy, visited, blocks, links, gaps, scratch)
+const PARTS: [Part; 7] = [
+    Part::Visited,
+    Part::Blocks,
+    Part::Links,
+    Part::Gaps,
+    Part::Scratch,
+    Part::Counts,
+    Part::Out,
+];
+
+impl Sizes {
+    fn of(self, part: Part) -> usize {
+        match part {
+            Part::Visited => self.visited,
+            Part::Blocks => self.blocks,
+            Part::Links => self.links,
+            Part::Gaps => self.gaps,
+            Part::Scratch => self.scratch,
+            Part::Counts => self.counts,
+            Part::Out => self.out,
+        }
+    }
+
+    // The same with n words or bytes of a part.
+    fn with(self, part: Part, n: usize) -> Sizes {
+        match part {
+            Part::Visited => Sizes { visited: n, ..self },
+            Part::Blocks => Sizes { blocks: n, ..self },
+            Part::Links => Sizes { links: n, ..self },
+            Part::Gaps => Sizes { gaps: n, ..self },
+            Part::Scratch => Sizes { scratch: n, ..self },
+            Part::Counts => Sizes { counts: n, ..self },
+            Part::Out => Sizes { out: n, ..self },
+        }
+    }
 }
 
-// Whether the blanker's answer, the tables and the recording that it left are what is wanted.
-fn settled_blank(
-    answer: Answer,
-    left: &[u8],
-    data: &[u8],
-    b: &[u8],
-    ends: Ends,
-    entry: Entry,
-    want: Want,
-    visited: &[u64],
-    blocks: &[u64],
-    links: &[u64],
-    gaps: &[u64],
-    scratch: &[u64],
-) -> bool
-    requires { Ordered ends × (ends.gaps ≤ length b.now) }
-{
-    if !blanked_or_kept(left, data, b, ends, want) {
-        return false;
-    }
-    settled(
-        answer,
-        b,
-        ends,
-        entry,
-        want,
-        visited,
-        blocks,
-        links,
-        gaps,
-        scratch,
-        &[],
-        b"",
-    )
+// An entry called on a recording, and what is to refuse it, if anything is.
+#[derive(Clone, Copy)]
+pub struct Call<'a> {
+    pub recording: &'a Recording<'a>,
+    pub entry: Entry,
+    pub refusal: Option<Refusal>,
 }
 
-// One call of the blanker, on this copy.
-fn blank_copy(
-    copy: &mut [u8],
-    data: &[u8],
-    b: &[u8],
-    ends: Ends,
-    entry: Entry,
-    want: Want,
-    visited: &mut [u64],
-    blocks: &mut [u64],
-    links: &mut [u64],
-    gaps: &mut [u64],
-    scratch: &mut [u64],
-) -> bool
-    requires { Ordered ends × (ends.gaps ≤ length b.now) }
-{
-    let answer = enter_blank(copy, data, visited, blocks, links, gaps, scratch);
-    settled_blank(
-        answer, copy, data, b, ends, entry, want, visited, blocks, links, gaps, scratch,
-    )
+impl Call<'_> {
+    // The blanker, on a copy; none where it doesn't leave the clear ranges zero, or after a refusal the recording as it was.
+    fn blank(&self, t: &mut Lent) -> Option<Result<Accepted, MdfError>> {
+        let file = self.recording.file;
+        let n = file.len();
+        if COPY < n {
+            return None;
+        }
+        let mut copy = [0u8; COPY];
+        let copy = &mut copy[..n];
+        copy.copy_from_slice(file);
+        let answer = block_layout::blank(copy, t.visited, t.blocks, t.links, t.gaps, t.scratch);
+        let is_left = match self.refusal {
+            None => is_blanked(copy, self.recording),
+            Some(_) => *copy == *file,
+        };
+        is_left.then_some(answer)
+    }
+
+    // The call itself; none where it doesn't leave the recording as it should.
+    fn enter(&self, t: &mut Lent) -> Option<Result<Accepted, MdfError>> {
+        let file = self.recording.file;
+        Some(match self.entry {
+            Entry::Layout => block_layout::layout(file, t.visited, t.blocks, t.links, t.gaps),
+            Entry::ClearList => block_layout::clear_list(
+                file, t.visited, t.blocks, t.links, t.gaps, t.scratch, t.out,
+            ),
+            Entry::ToText => {
+                block_layout::to_text(file, t.visited, t.blocks, t.links, t.gaps, t.out)
+            }
+            Entry::ToTree => {
+                block_layout::to_tree(file, t.visited, t.blocks, t.links, t.gaps, t.out)
+            }
+            Entry::Preview => block_layout::preview(
+                file, t.visited, t.blocks, t.links, t.gaps, t.scratch, t.counts,
+            ),
+            Entry::Blank => return self.blank(t),
+        })
+    }
+
+    // Whether it answers and leaves what it should, with as much lent as is said, all filled with ones.
+    fn lend(&self, n: Sizes) -> bool {
+        if VISITED < n.visited
+            || BLOCKS < n.blocks
+            || LINKS < n.links
+            || GAPS < n.gaps
+            || SCRATCH < n.scratch
+            || COUNTS < n.counts
+            || OUT < n.out
+        {
+            return false;
+        }
+        let mut visited = [ONES; VISITED];
+        let mut blocks = [ONES; BLOCKS];
+        let mut links = [ONES; LINKS];
+        let mut gaps = [ONES; GAPS];
+        let mut scratch = [ONES; SCRATCH];
+        let mut counts = [ONES; COUNTS];
+        let mut out = [255u8; OUT];
+        let mut lent = Lent {
+            visited: &mut visited[..n.visited],
+            blocks: &mut blocks[..n.blocks],
+            links: &mut links[..n.links],
+            gaps: &mut gaps[..n.gaps],
+            scratch: &mut scratch[..n.scratch],
+            counts: &mut counts[..n.counts],
+            out: &mut out[..n.out],
+        };
+        self.enter(&mut lent)
+            .is_some_and(|answer| is_settled(answer, self, &lent))
+    }
 }
 
-// One call of the blanker with these tables.
-fn call_blank(
-    data: &[u8],
-    b: &[u8],
-    ends: Ends,
-    entry: Entry,
-    want: Want,
-    visited: &mut [u64],
-    blocks: &mut [u64],
-    links: &mut [u64],
-    gaps: &mut [u64],
-    scratch: &mut [u64],
-) -> bool
-    requires { Ordered ends × (ends.gaps ≤ length b.now) }
-{
-    let n = data.len();
-    if COPY < n {
-        return false;
+fn four(number: u64, place: u64, a: usize, b: usize) -> Refusal {
+    Refusal {
+        number,
+        place,
+        a: a as u64,
+        b: b as u64,
     }
-    let mut copy = [0u8; COPY];
-    blank_copy(
-        &mut copy[..n],
-        data,
-        b,
-        ends,
-        entry,
-        want,
-        visited,
-        blocks,
-        links,
-        gaps,
-        scratch,
-    )
 }
 
-// One call of an entry with these tables, counts and output.
-fn call(
-    data: &[u8],
-    b: &[u8],
-    ends: Ends,
-    entry: Entry,
-    want: Want,
-    visited: &mut [u64],
-    blocks: &mut [u64],
-    links: &mut [u64],
-    gaps: &mut [u64],
-    scratch: &mut [u64],
-    counts: &mut [u64],
-    out: &mut [u8],
-) -> bool
-    requires { Ordered ends × (ends.gaps ≤ length b.now) }
-{
-    if entry.number == BLANK {
-        return call_blank(
-            data, b, ends, entry, want, visited, blocks, links, gaps, scratch,
-        );
-    }
-    let answer = enter(
-        entry.number,
-        data,
-        visited,
-        blocks,
-        links,
-        gaps,
-        scratch,
-        counts,
-        out,
-    );
-    settled(
-        answer, b, ends, entry, want, visited, blocks, links, gaps, scratch, counts, out,
-    )
+// A call for a recording whose walk ends, and where refusals 10 to 12 come.
+#[derive(Clone, Copy)]
+struct Case<'a> {
+    call: Call<'a>,
+    places: Places,
 }
 
-// One call with as much as is to be lent, all filled with ones.
-fn lend(data: &[u8], b: &[u8], ends: Ends, entry: Entry, want: Want, lent: Lent) -> bool
-    requires { Ordered ends × (ends.gaps ≤ length b.now) }
-{
-    let v = lent.visited;
-    let n = lent.blocks;
-    let l = lent.links;
-    let g = lent.gaps;
-    let s = lent.scratch;
-    let c = lent.counts;
-    let o = lent.out;
-    if VISITED < v {
-        return false;
+impl Case<'_> {
+    // What refuses the call where n words or bytes of a part are lent in place of those needed. The walk fills the first three.
+    fn refusal(&self, part: Part, n: usize, needed: usize) -> Refusal {
+        let after_walk = |e| self.call.refusal.unwrap_or(e);
+        match part {
+            Part::Visited => four(10, self.places.visited, n, 0),
+            Part::Blocks => four(11, self.places.blocks, n / BLOCK_ROW_WORDS, 0),
+            Part::Links => four(12, self.places.links, n / PAIR_WORDS, 0),
+            Part::Gaps | Part::Scratch => {
+                after_walk(four(13, 0, n / PAIR_WORDS, needed / PAIR_WORDS))
+            }
+            Part::Counts => after_walk(four(13, 0, n, needed)),
+            Part::Out => after_walk(four(14, 0, n, needed)),
+        }
     }
-    if BLOCKS < n {
-        return false;
-    }
-    if LINKS < l {
-        return false;
-    }
-    if GAPS < g {
-        return false;
-    }
-    if SCRATCH < s {
-        return false;
-    }
-    if COUNTS < c {
-        return false;
-    }
-    if OUT < o {
-        return false;
-    }
-    let mut visited = [ONES; VISITED];
-    let mut blocks = [ONES; BLOCKS];
-    let mut links = [ONES; LINKS];
-    let mut gaps = [ONES; GAPS];
-    let mut scratch = [ONES; SCRATCH];
-    let mut counts = [ONES; COUNTS];
-    let mut out = [255u8; OUT];
-    call(
-        data,
-        b,
-        ends,
-        entry,
-        want,
-        &mut visited[..v],
-        &mut blocks[..n],
-        &mut links[..l],
-        &mut gaps[..g],
-        &mut scratch[..s],
-        &mut counts[..c],
-        &mut out[..o],
-    )
-}
 
-// One visited row too few.
-fn few_visited(data: &[u8], b: &[u8], ends: Ends, entry: Entry, places: Want, lent: Lent) -> bool
-    requires { Ordered ends × (ends.gaps ≤ length b.now) }
-{
-    if lent.visited == 0 {
-        return true;
+    // One call with n words or bytes of a part in place of more.
+    fn short(&self, part: Part, n: usize, lent: Sizes) -> bool {
+        let needed = lent.of(part);
+        if needed <= n {
+            return true;
+        }
+        let refusal = Some(self.refusal(part, n, needed));
+        Call {
+            refusal,
+            ..self.call
+        }
+        .lend(lent.with(part, n))
     }
-    let mut short = lent;
-    short.visited = lent.visited - 1;
-    let want = refusal(10, places.place, short.visited, 0);
-    lend(data, b, ends, entry, want, short)
-}
 
-// One block row too few.
-fn few_blocks(data: &[u8], b: &[u8], ends: Ends, entry: Entry, places: Want, lent: Lent) -> bool
-    requires { Ordered ends × (ends.gaps ≤ length b.now) }
-{
-    if lent.blocks == 0 {
-        return true;
+    // One call with a row's word, a count or a byte of a part too few.
+    fn one_short(&self, part: Part, lent: Sizes) -> bool {
+        self.short(part, lent.of(part).saturating_sub(1), lent)
     }
-    let mut short = lent;
-    short.blocks = lent.blocks - 1;
-    let want = refusal(11, places.a, short.blocks / BLOCK_ROW_WORDS, 0);
-    lend(data, b, ends, entry, want, short)
-}
 
-// One link row too few.
-fn few_links(data: &[u8], b: &[u8], ends: Ends, entry: Entry, places: Want, lent: Lent) -> bool
-    requires { Ordered ends × (ends.gaps ≤ length b.now) }
-{
-    if lent.links == 0 {
-        return true;
+    // All calls, with just enough lent and with less. The scratch table's 13 comes before that of the counts.
+    fn calls(&self, lent: Sizes) -> bool {
+        self.call.lend(lent)
+            && self.call.lend(self.call.entry.plenty())
+            && PARTS.iter().all(|&part| self.one_short(part, lent))
+            && self.short(Part::Counts, 0, lent)
+            && (lent.counts == 0 || self.one_short(Part::Scratch, Sizes { counts: 0, ..lent }))
+            && self.short(Part::Out, 0, lent)
     }
-    let mut short = lent;
-    short.links = lent.links - 1;
-    let want = refusal(12, places.b, short.links / PAIR_WORDS, 0);
-    lend(data, b, ends, entry, want, short)
-}
 
-// The refusal that comes right after the walk, if there is one; or what is refused later.
-fn first(walked: Want, later: Want) -> Want {
-    if walked.number != 0 {
-        return walked;
+    // All calls of an entry that goes over the clear ranges for an unfinalised recording: refused after the walk and before anything
+    // else, so also if nothing is lent for what follows.
+    fn refuses_clearing(&self) -> bool {
+        let exact = self.call.recording.exact(self.call.entry);
+        let plenty = self.call.entry.plenty();
+        let nothing = Sizes {
+            gaps: 0,
+            scratch: 0,
+            counts: 0,
+            out: 0,
+            ..exact
+        };
+        self.calls(Sizes {
+            counts: plenty.counts,
+            out: plenty.out,
+            ..exact
+        }) && self.call.lend(nothing)
     }
-    later
-}
-
-// One gap row too few.
-fn few_gaps(data: &[u8], b: &[u8], ends: Ends, entry: Entry, walked: Want, lent: Lent) -> bool
-    requires { Ordered ends × (ends.gaps ≤ length b.now) }
-{
-    if lent.gaps == 0 {
-        return true;
-    }
-    let mut short = lent;
-    short.gaps = lent.gaps - 1;
-    let want = first(
-        walked,
-        refusal(13, 0, short.gaps / PAIR_WORDS, lent.gaps / PAIR_WORDS),
-    );
-    lend(data, b, ends, entry, want, short)
-}
-
-// One scratch row too few.
-fn few_scratch(data: &[u8], b: &[u8], ends: Ends, entry: Entry, walked: Want, lent: Lent) -> bool
-    requires { Ordered ends × (ends.gaps ≤ length b.now) }
-{
-    if lent.scratch == 0 {
-        return true;
-    }
-    let mut short = lent;
-    short.scratch = lent.scratch - 1;
-    let want = first(
-        walked,
-        refusal(13, 0, short.scratch / PAIR_WORDS, lent.scratch / PAIR_WORDS),
-    );
-    lend(data, b, ends, entry, want, short)
-}
-
-// One byte of the output too few.
-fn few_bytes(data: &[u8], b: &[u8], ends: Ends, entry: Entry, walked: Want, lent: Lent) -> bool
-    requires { Ordered ends × (ends.gaps ≤ length b.now) }
-{
-    if lent.out == 0 {
-        return true;
-    }
-    let mut short = lent;
-    short.out = lent.out - 1;
-    let want = first(walked, refusal(14, 0, short.out, lent.out));
-    lend(data, b, ends, entry, want, short)
-}
-
-// No output.
-fn no_bytes(data: &[u8], b: &[u8], ends: Ends, entry: Entry, walked: Want, lent: Lent) -> bool
-    requires { Ordered ends × (ends.gaps ≤ length b.now) }
-{
-    if lent.out == 0 {
-        return true;
-    }
-    let mut short = lent;
-    short.out = 0;
-    let want = first(walked, refusal(14, 0, 0, lent.out));
-    lend(data, b, ends, entry, want, short)
-}
-
-// One count too few.
-fn few_counts(data: &[u8], b: &[u8], ends: Ends, entry: Entry, walked: Want, lent: Lent) -> bool
-    requires { Ordered ends × (ends.gaps ≤ length b.now) }
-{
-    if lent.counts == 0 {
-        return true;
-    }
-    let mut short = lent;
-    short.counts = lent.counts - 1;
-    let want = first(walked, refusal(13, 0, short.counts, lent.counts));
-    lend(data, b, ends, entry, want, short)
-}
-
-// No counts; the scratch table's 13 comes before theirs.
-fn no_counts(data: &[u8], b: &[u8], ends: Ends, entry: Entry, walked: Want, lent: Lent) -> bool
-    requires { Ordered ends × (ends.gaps ≤ length b.now) }
-{
-    if lent.counts == 0 {
-        return true;
-    }
-    let mut short = lent;
-    short.counts = 0;
-    let want = first(walked, refusal(13, 0, 0, lent.counts));
-    if !lend(data, b, ends, entry, want, short) {
-        return false;
-    }
-    few_scratch(data, b, ends, entry, walked, short)
-}
-
-// Each table one row short, as the walk and the gaps fill them.
-fn few_rows(
-    data: &[u8],
-    b: &[u8],
-    ends: Ends,
-    entry: Entry,
-    places: Want,
-    walked: Want,
-    lent: Lent,
-) -> bool
-    requires { Ordered ends × (ends.gaps ≤ length b.now) }
-{
-    if !few_visited(data, b, ends, entry, places, lent) {
-        return false;
-    }
-    if !few_blocks(data, b, ends, entry, places, lent) {
-        return false;
-    }
-    if !few_links(data, b, ends, entry, places, lent) {
-        return false;
-    }
-    few_gaps(data, b, ends, entry, walked, lent)
-}
-
-// The scratch table, the counts and the output short.
-fn few_of_own(data: &[u8], b: &[u8], ends: Ends, entry: Entry, walked: Want, lent: Lent) -> bool
-    requires { Ordered ends × (ends.gaps ≤ length b.now) }
-{
-    if !few_scratch(data, b, ends, entry, walked, lent) {
-        return false;
-    }
-    if !few_counts(data, b, ends, entry, walked, lent) {
-        return false;
-    }
-    if !no_counts(data, b, ends, entry, walked, lent) {
-        return false;
-    }
-    if !few_bytes(data, b, ends, entry, walked, lent) {
-        return false;
-    }
-    no_bytes(data, b, ends, entry, walked, lent)
-}
-
-// All calls of an entry for a recording whose walk ends, with just enough lent and with less.
-fn entry_calls(
-    data: &[u8],
-    b: &[u8],
-    ends: Ends,
-    entry: Entry,
-    places: Want,
-    walked: Want,
-    lent: Lent,
-) -> bool
-    requires { Ordered ends × (ends.gaps ≤ length b.now) }
-{
-    if !lend(data, b, ends, entry, walked, lent) {
-        return false;
-    }
-    if !lend(data, b, ends, entry, walked, plenty(entry.number)) {
-        return false;
-    }
-    if !few_rows(data, b, ends, entry, places, walked, lent) {
-        return false;
-    }
-    few_of_own(data, b, ends, entry, walked, lent)
-}
-
-// Whether what the entry answers was recorded: its bytes; of blanker and preview, whether a clear list was. The layout has no bytes.
-fn is_recorded(ends: Ends, entry: Entry) -> bool {
-    if entry.number == LAYOUT {
-        return true;
-    }
-    if is_clearing(entry.number) {
-        return ends.tree != ends.clear;
-    }
-    entry.from != entry.to
 }
 
 // All calls for a recording that is accepted, or for what its blanking leaves: that is answered alike, but that nothing is counted.
-pub(crate) fn accepts(data: &[u8], b: &[u8], ends: Ends, places: Want, blanked: bool) -> bool
-    requires { Ordered ends × (ends.gaps ≤ length b.now) }
-{
-    let mut number = 0;
-    while number < ENTRIES {
-        let entry = entry_of(ends, number, blanked);
-        if is_recorded(ends, entry) {
-            if !entry_calls(
-                data,
-                b,
-                ends,
+pub(crate) fn accepts(recording: &Recording, places: Places) -> bool {
+    ENTRIES
+        .iter()
+        .filter(|&&entry| recording.has(entry))
+        .all(|&entry| {
+            let call = Call {
+                recording,
                 entry,
-                places,
-                refusal(0, 0, 0, 0),
-                exact(ends, entry),
-            ) {
-                return false;
-            }
-        }
-        number += 1;
-    }
-    true
-}
-
-// All calls of an entry that goes over the clear ranges for an unfinalised recording: refused after the walk and before anything else,
-// so also if nothing is lent for what follows.
-fn refuses_clearing(
-    data: &[u8],
-    b: &[u8],
-    ends: Ends,
-    entry: Entry,
-    places: Want,
-    unfinalized: Want,
-) -> bool
-    requires { Ordered ends × (ends.gaps ≤ length b.now) }
-{
-    let more = plenty(entry.number);
-    let mut lent = exact(ends, entry);
-    lent.counts = more.counts;
-    lent.out = more.out;
-    if !entry_calls(data, b, ends, entry, places, unfinalized, lent) {
-        return false;
-    }
-    lent.gaps = 0;
-    lent.scratch = 0;
-    lent.counts = 0;
-    lent.out = 0;
-    lend(data, b, ends, entry, unfinalized, lent)
+                refusal: None,
+            };
+            Case { call, places }.calls(recording.exact(entry))
+        })
 }
 
 // Clear list, preview and blanker refuse an unfinalised recording.
-pub(crate) fn refuses_unfinalized(
-    data: &[u8],
-    b: &[u8],
-    ends: Ends,
-    places: Want,
-    unfinalized: Want,
-) -> bool
-    requires { Ordered ends × (ends.gaps ≤ length b.now) }
-{
-    let mut number = 0;
-    while number < ENTRIES {
-        let entry = entry_of(ends, number, false);
-        if is_clearing(number) {
-            if !refuses_clearing(data, b, ends, entry, places, unfinalized) {
-                return false;
-            }
-        }
-        number += 1;
-    }
-    true
+pub(crate) fn refuses_unfinalized(recording: &Recording, places: Places, e: Refusal) -> bool {
+    ENTRIES
+        .iter()
+        .filter(|entry| entry.is_clearing())
+        .all(|&entry| {
+            let call = Call {
+                recording,
+                entry,
+                refusal: Some(e),
+            };
+            Case { call, places }.refuses_clearing()
+        })
 }
 
 // All entries refuse the recording.
-pub(crate) fn refuses(data: &[u8], b: &[u8], ends: Ends, recorded: Want) -> bool
-    requires { Ordered ends × (ends.gaps ≤ length b.now) }
-{
-    let mut number = 0;
-    while number < ENTRIES {
-        let entry = entry_of(ends, number, false);
-        if !lend(data, b, ends, entry, recorded, plenty(number)) {
-            return false;
-        }
-        number += 1;
-    }
-    true
+pub(crate) fn refuses(recording: &Recording, e: Refusal) -> bool {
+    ENTRIES.iter().all(|&entry| {
+        let call = Call {
+            recording,
+            entry,
+            refusal: Some(e),
+        };
+        call.lend(entry.plenty())
+    })
 }

@@ -4,9 +4,6 @@
 // with ones. Prints the place of each recording that is answered otherwise, and how many there are.
 #![tactic(auto)]
 
-ghost use Rattle.std.specs.Prelude.{◌≤◌, length, IfOk};
-ghost use Rattle.replay.specs.Parts.{Ordered};
-
 mod calls;
 mod clear;
 mod compare;
@@ -15,79 +12,54 @@ mod recording;
 use calls::{accepts, refuses, refuses_unfinalized};
 use clear::{COPY, zero_clear};
 use reading::read_full;
-use recording::{Ends, Want, ends_of, recorded, size_at, unfinalized};
+use recording::{COUNTS, HEAD, Places, Recording, end_of, recorded, unfinalized};
 use std::io;
 
-// Bytes of a recording's head.
-const HEAD: usize = 80;
-
-// All calls for what the blanker leaves of the recording, made in this copy.
-fn copy_calls(copy: &mut [u8], data: &[u8], b: &[u8], ends: Ends, places: Want) -> bool
-    requires { Ordered ends × (ends.gaps ≤ length b.now) }
-{
-    if !zero_clear(copy, data, b, ends) {
-        return false;
-    }
-    accepts(copy, b, ends, places, true)
-}
+// The most recordings that are read.
+const MOST: usize = 1000000;
 
 // All calls for what the blanker leaves of the recording.
-fn blanked_calls(data: &[u8], b: &[u8], ends: Ends, places: Want) -> bool
-    requires { Ordered ends × (ends.gaps ≤ length b.now) }
-{
-    let n = data.len();
-    if COPY < n {
+fn blanked_calls(recording: &Recording, places: Places) -> bool {
+    let n = recording.file.len();
+    let counts = recording.counts.len();
+    if COPY < n || COUNTS < counts {
         return false;
     }
+    let zeros = [[0u8; 8]; COUNTS];
     let mut copy = [0u8; COPY];
-    copy_calls(&mut copy[..n], data, b, ends, places)
+    if !zero_clear(&mut copy[..n], recording) {
+        return false;
+    }
+    let blanked = Recording {
+        file: &copy[..n],
+        counts: &zeros[..counts],
+        total: 0,
+        ..*recording
+    };
+    accepts(&blanked, places)
 }
 
-// All calls for a recording. An unfinalised one has no clear list.
-fn calls_for(b: &[u8], ends: Ends, want: Want, unfinalized: Want) -> bool
-    requires { Ordered ends × (ends.gaps ≤ length b.now) }
-{
-    let end = ends.file;
-    if want.number != 0 {
-        return refuses(&b[..end], b, ends, want);
-    }
-    if !accepts(&b[..end], b, ends, want, false) {
+// Whether the recording with this head and these parts is answered as it was recorded. An unfinalised one has no clear list.
+fn replayed(head: &[u8; HEAD], b: &[u8]) -> bool {
+    let Some(recording) = Recording::parse(head, b) else {
         return false;
+    };
+    match recorded(head) {
+        Err(e) => refuses(&recording, e),
+        Ok(places) => {
+            accepts(&recording, places)
+                && match unfinalized(head) {
+                    Some(e) => refuses_unfinalized(&recording, places, e),
+                    None => blanked_calls(&recording, places),
+                }
+        }
     }
-    if unfinalized.number != 0 {
-        return refuses_unfinalized(&b[..end], b, ends, want, unfinalized);
-    }
-    blanked_calls(&b[..end], b, ends, want)
-}
-
-// Whether the recording with this head and these parts is answered as it was recorded.
-fn replayed(head: &[u8], b: &[u8]) -> bool
-    requires { 80 ≤ length head.now }
-{
-    let ends = ends_of(head);
-    if ends.visited < ends.file {
-        return false;
-    }
-    if ends.blocks < ends.visited {
-        return false;
-    }
-    if ends.links < ends.blocks {
-        return false;
-    }
-    if ends.gaps < ends.links {
-        return false;
-    }
-    if b.len() < ends.gaps {
-        return false;
-    }
-    calls_for(b, ends, recorded(head), unfinalized(head))
 }
 
 // Reads the parts of the recording with this head, and replays it.
-fn parts<R: io::Read>(input: &mut R, head: &[u8], buf: &mut [u8]) -> io::Result<bool>
-    requires { 80 ≤ length head.now }
-{
-    let n = size_at(head, 32);
+fn parts<R: io::Read>(input: &mut R, head: &[u8; HEAD]) -> io::Result<bool> {
+    let mut buf = [0u8; 131072];
+    let n = end_of(head, 8);
     if buf.len() < n {
         return Ok(false);
     }
@@ -97,48 +69,32 @@ fn parts<R: io::Read>(input: &mut R, head: &[u8], buf: &mut [u8]) -> io::Result<
     Ok(replayed(head, &buf[..n]))
 }
 
-// The next recording: whether it is answered as it was recorded; or there is none.
-#[derive(Drop)]
-pub enum Read {
-    Recording(bool),
-    Nothing,
-}
-
-fn next<R: io::Read>(input: &mut R) -> io::Result<Read> {
+// Whether the next recording, if there is one, is answered as it was recorded.
+fn next<R: io::Read>(input: &mut R) -> io::Result<Option<bool>> {
     let mut head = [0u8; HEAD];
-    let mut buf = [0u8; 131072];
     if read_full(input, &mut head)? != HEAD {
-        return Ok(Read::Nothing);
+        return Ok(None);
     }
-    Ok(Read::Recording(parts(input, &head, &mut buf)?))
+    Ok(Some(parts(input, &head)?))
 }
 
-fn say(rt: &impl Print, n: usize, text: &str) -> io::Result<()> {
-    print!(rt; "{n}{text}")
-}
-
-// How many recordings at a place differ, 0 or 1.
-fn note(rt: &impl Print, place: usize, same: bool) -> io::Result<usize>
-    ensures { IfOk result (λ n. n ≤ 1) }
-{
-    if same {
-        return Ok(0);
+// Replays all recordings, and answers how many there are and how many differ.
+fn replay<R: io::Read>(rt: &impl Print, input: &mut R) -> io::Result<(usize, usize)> {
+    let mut differ = 0;
+    for place in 0..MOST {
+        match next(input)? {
+            None => return Ok((place, differ)),
+            Some(true) => {}
+            Some(false) => {
+                println!(rt; "{place} differs")?;
+                differ += 1;
+            }
+        }
     }
-    say(rt, place, " differs\n")?;
-    Ok(1)
+    Ok((MOST, differ))
 }
 
 fn main(rt: HostRuntime) -> io::Result<()> {
-    let mut input = rt.reader();
-    let mut read: usize = 0;
-    let mut differ: usize = 0;
-    while read < 1000000 {
-        let Read::Recording(same) = next(&mut input)? else {
-            break;
-        };
-        differ += note(&rt, read, same)?;
-        read += 1;
-    }
-    say(&rt, read, " recordings, ")?;
-    say(&rt, differ, " differ\n")
+    let (read, differ) = replay(&rt, &mut rt.reader())?;
+    println!(rt; "{read} recordings, {differ} differ")
 }

@@ -1,24 +1,13 @@
-// A recording of the pack: where its parts end, what was answered, and what is lent to the entries for it.
-ghost use Rattle.std.specs.Prelude.{◌+◌, ◌≤◌, length};
-ghost use Rattle.replay.specs.Parts.{Ordered};
+// A recording of the pack: its parts, what was answered, and what the entries are lent for it.
+ghost use Rattle.std.specs.Prelude.{◌≤◌, ◌<◌};
 
+use block_layout::{Accepted, Rows};
+use blocks::error::Refusal;
 use little_endian::{read_u16, read_u32, read_u64};
-use tables::PAIR_WORDS;
+use tables::{BLOCK_ROW_WORDS, PAIR_WORDS};
 
-// The entries, and how many there are.
-pub const LAYOUT: u8 = 0;
-
-pub const CLEAR_LIST: u8 = 1;
-
-pub const TO_TEXT: u8 = 2;
-
-pub const TO_TREE: u8 = 3;
-
-pub const PREVIEW: u8 = 4;
-
-pub const BLANK: u8 = 5;
-
-pub const ENTRIES: u8 = 6;
+// Bytes of a recording's head.
+pub const HEAD: usize = 80;
 
 // Words that there are to lend of each table, and bytes of the output.
 pub const VISITED: usize = 1024;
@@ -35,34 +24,36 @@ pub const COUNTS: usize = 1024;
 
 pub const OUT: usize = 16384;
 
-// The places behind a recording's parts, the rows that its clear list needs of the scratch table, and its preview's total.
-#[derive(Clone, Copy)]
-pub struct Ends {
-    pub file: usize,
-    pub visited: usize,
-    pub blocks: usize,
-    pub links: usize,
-    pub gaps: usize,
-    pub text: usize,
-    pub tree: usize,
-    pub clear: usize,
-    pub counts: usize,
-    pub scratch: usize,
-    pub total: u64,
+#[derive(Clone, Copy, PartialEq, Eq)]
+pub enum Entry {
+    Layout,
+    ClearList,
+    ToText,
+    ToTree,
+    Preview,
+    Blank,
 }
 
-// An entry, where its bytes or counts stand in the parts, and whether it is called on the blanked recording, where all counts are 0.
+pub const ENTRIES: [Entry; 6] = [
+    Entry::Layout,
+    Entry::ClearList,
+    Entry::ToText,
+    Entry::ToTree,
+    Entry::Preview,
+    Entry::Blank,
+];
+
+// The places at which refusals 10, 11 and 12 come where the visited, block or link table is one row short.
 #[derive(Clone, Copy)]
-pub struct Entry {
-    pub number: u8,
-    pub from: usize,
-    pub to: usize,
-    pub blanked: bool,
+pub struct Places {
+    pub visited: u64,
+    pub blocks: u64,
+    pub links: u64,
 }
 
 // Words lent of each table, and bytes of the output.
 #[derive(Clone, Copy)]
-pub struct Lent {
+pub struct Sizes {
     pub visited: usize,
     pub blocks: usize,
     pub links: usize,
@@ -72,188 +63,186 @@ pub struct Lent {
     pub out: usize,
 }
 
-// The answer that is wanted: a refusal, or number 0.
+// The parts of a recording, the rows that its clear list needs of the scratch table, and its preview's total.
 #[derive(Clone, Copy)]
-pub struct Want {
-    pub number: u64,
-    pub place: u64,
-    pub a: u64,
-    pub b: u64,
+pub struct Recording<'a> {
+    pub file: &'a [u8],
+    pub visited: &'a [[u8; 8]],
+    pub blocks: &'a [[u8; 8]],
+    pub links: &'a [[u8; 8]],
+    pub gaps: &'a [[u8; 8]],
+    pub text: &'a [u8],
+    pub tree: &'a [u8],
+    pub clear: &'a [u8],
+    pub counts: &'a [[u8; 8]],
+    pub scratch: usize,
+    pub total: u64,
 }
 
-pub(crate) fn size_at(b: &[u8], at: usize) -> usize
-    requires { at + 4 ≤ length b.now }
+// Where the part at place i of the head ends, counted from the first part on.
+pub(crate) fn end_of(head: &[u8; HEAD], i: usize) -> usize
+    requires { i < 10 }
 {
-    read_u32(b, at) as usize
+    read_u32(head, 4 * i) as usize
 }
 
-pub(crate) fn ends_of(head: &[u8]) -> Ends
-    requires { 80 ≤ length head.now }
+// The part at place i, which begins where the one before it ends.
+fn part<'a>(head: &[u8; HEAD], b: &'a [u8], i: usize) -> Option<&'a [u8]>
+    requires { i < 9 }
 {
-    Ends {
-        file: size_at(head, 0),
-        visited: size_at(head, 4),
-        blocks: size_at(head, 8),
-        links: size_at(head, 12),
-        gaps: size_at(head, 16),
-        text: size_at(head, 20),
-        tree: size_at(head, 24),
-        clear: size_at(head, 28),
-        counts: size_at(head, 32),
-        scratch: size_at(head, 36),
-        total: read_u32(head, 44) as u64,
+    let from = if i == 0 { 0 } else { end_of(head, i - 1) };
+    b.get(from..end_of(head, i))
+}
+
+// The same of a part of words.
+fn words<'a>(head: &[u8; HEAD], b: &'a [u8], i: usize) -> Option<&'a [[u8; 8]]>
+    requires { i < 9 }
+{
+    Some(part(head, b, i)?.as_chunks::<8>().0)
+}
+
+// What was recorded: the places of an accepted recording, or the refusal.
+pub(crate) fn recorded(head: &[u8; HEAD]) -> Result<Places, Refusal> {
+    let number = read_u64(head, 48);
+    let place = read_u64(head, 56);
+    let a = read_u64(head, 64);
+    let b = read_u64(head, 72);
+    if number != 0 {
+        return Err(Refusal {
+            number,
+            place,
+            a,
+            b,
+        });
     }
+    Ok(Places {
+        visited: place,
+        blocks: a,
+        links: b,
+    })
 }
 
-// What was recorded.
-pub(crate) fn recorded(head: &[u8]) -> Want
-    requires { 80 ≤ length head.now }
-{
-    Want {
-        number: read_u64(head, 48),
-        place: read_u64(head, 56),
-        a: read_u64(head, 64),
-        b: read_u64(head, 72),
-    }
-}
-
-// What refuses the clear list, preview and blanking of an unfinalised recording, or number 0.
-pub(crate) fn unfinalized(head: &[u8]) -> Want
-    requires { 80 ≤ length head.now }
-{
+// What refuses the clear list, preview and blanking of an unfinalised recording.
+pub(crate) fn unfinalized(head: &[u8; HEAD]) -> Option<Refusal> {
     let standard = read_u16(head, 40);
     let custom = read_u16(head, 42);
-    if standard == 0 {
-        if custom == 0 {
-            return refusal(0, 0, 0, 0);
+    if standard == 0 && custom == 0 {
+        return None;
+    }
+    Some(Refusal {
+        number: 16,
+        place: 60,
+        a: standard as u64,
+        b: custom as u64,
+    })
+}
+
+impl<'a> Recording<'a> {
+    pub(crate) fn parse(head: &[u8; HEAD], b: &'a [u8]) -> Option<Recording<'a>> {
+        Some(Recording {
+            file: part(head, b, 0)?,
+            visited: words(head, b, 1)?,
+            blocks: words(head, b, 2)?,
+            links: words(head, b, 3)?,
+            gaps: words(head, b, 4)?,
+            text: part(head, b, 5)?,
+            tree: part(head, b, 6)?,
+            clear: part(head, b, 7)?,
+            counts: words(head, b, 8)?,
+            scratch: end_of(head, 9),
+            total: read_u32(head, 44) as u64,
+        })
+    }
+
+    // The bytes that the entry is to write.
+    pub(crate) fn output(&self, entry: Entry) -> &'a [u8] {
+        match entry {
+            Entry::ClearList => self.clear,
+            Entry::ToText => self.text,
+            Entry::ToTree => self.tree,
+            Entry::Layout | Entry::Preview | Entry::Blank => b"",
         }
     }
-    refusal(16, 60, standard as usize, custom as usize)
+
+    // The counts that the entry is to write.
+    pub(crate) fn counts(&self, entry: Entry) -> &'a [[u8; 8]] {
+        if entry == Entry::Preview {
+            self.counts
+        } else {
+            &[]
+        }
+    }
+
+    // Whether what the entry answers was recorded: its bytes; of blanker and preview, whether a clear list was. The layout has no bytes.
+    pub(crate) fn has(&self, entry: Entry) -> bool {
+        match entry {
+            Entry::Layout => true,
+            Entry::ToText | Entry::ToTree => !self.output(entry).is_empty(),
+            Entry::ClearList | Entry::Preview | Entry::Blank => !self.clear.is_empty(),
+        }
+    }
+
+    // What the entry answers where it accepts.
+    pub(crate) fn accepted(&self, entry: Entry) -> Accepted {
+        let rows = Rows {
+            visited: self.visited.len(),
+            blocks: self.blocks.len() / BLOCK_ROW_WORDS,
+            links: self.links.len() / PAIR_WORDS,
+            gaps: self.gaps.len() / PAIR_WORDS,
+        };
+        Accepted {
+            rows,
+            bytes: if entry == Entry::Preview {
+                self.counts.len()
+            } else {
+                self.output(entry).len()
+            },
+            total: if entry == Entry::Preview {
+                self.total
+            } else {
+                0
+            },
+        }
+    }
+
+    // The words and bytes of the parts.
+    pub(crate) fn exact(&self, entry: Entry) -> Sizes {
+        Sizes {
+            visited: self.visited.len(),
+            blocks: self.blocks.len(),
+            links: self.links.len(),
+            gaps: self.gaps.len(),
+            scratch: if entry.is_clearing() {
+                self.scratch.saturating_mul(PAIR_WORDS).min(SCRATCH)
+            } else {
+                0
+            },
+            counts: self.counts(entry).len(),
+            out: self.output(entry).len(),
+        }
+    }
 }
 
-pub(crate) fn refusal(number: u64, place: u64, a: usize, b: usize) -> Want {
-    Want {
-        number,
-        place,
-        a: a as u64,
-        b: b as u64,
+impl Entry {
+    // Whether it goes over the clear ranges.
+    pub(crate) fn is_clearing(self) -> bool {
+        matches!(self, Entry::ClearList | Entry::Preview | Entry::Blank)
     }
-}
 
-// Where the bytes or counts of an entry begin in the parts; one without them has an empty part.
-fn part_from(ends: Ends, number: u8) -> usize {
-    if number == CLEAR_LIST {
-        return ends.tree;
+    // More than enough for each recording, and not a whole number of rows.
+    pub(crate) fn plenty(self) -> Sizes {
+        Sizes {
+            visited: VISITED,
+            blocks: BLOCKS - 1,
+            links: LINKS - 1,
+            gaps: GAPS - 1,
+            scratch: if self.is_clearing() { SCRATCH - 1 } else { 0 },
+            counts: if self == Entry::Preview { COUNTS } else { 0 },
+            out: if matches!(self, Entry::ClearList | Entry::ToText | Entry::ToTree) {
+                OUT
+            } else {
+                0
+            },
+        }
     }
-    if number == TO_TREE {
-        return ends.text;
-    }
-    if number == PREVIEW {
-        return ends.clear;
-    }
-    ends.gaps
-}
-
-// Where they end.
-fn part_to(ends: Ends, number: u8) -> usize {
-    if number == CLEAR_LIST {
-        return ends.clear;
-    }
-    if number == TO_TEXT {
-        return ends.text;
-    }
-    if number == TO_TREE {
-        return ends.tree;
-    }
-    if number == PREVIEW {
-        return ends.counts;
-    }
-    ends.gaps
-}
-
-pub(crate) fn entry_of(ends: Ends, number: u8, blanked: bool) -> Entry {
-    Entry {
-        number,
-        from: part_from(ends, number),
-        to: part_to(ends, number),
-        blanked,
-    }
-}
-
-// Whether the entry goes over the clear ranges.
-pub(crate) fn is_clearing(number: u8) -> bool {
-    if number == CLEAR_LIST {
-        return true;
-    }
-    PREVIEW <= number
-}
-
-// How many bytes, or counts, an entry answers.
-pub(crate) fn size_of(entry: Entry) -> usize {
-    if entry.to < entry.from {
-        return 0;
-    }
-    if entry.number == PREVIEW {
-        return (entry.to - entry.from) / 8;
-    }
-    entry.to - entry.from
-}
-
-// Words of the scratch table for the entry.
-fn scratch_words(number: u8, rows: usize) -> usize {
-    if !is_clearing(number) {
-        return 0;
-    }
-    if SCRATCH / PAIR_WORDS < rows {
-        return SCRATCH;
-    }
-    rows * PAIR_WORDS
-}
-
-// The words and bytes of the parts.
-pub(crate) fn exact(ends: Ends, entry: Entry) -> Lent
-    requires { Ordered ends }
-{
-    let mut lent = Lent {
-        visited: (ends.visited - ends.file) / 8,
-        blocks: (ends.blocks - ends.visited) / 8,
-        links: (ends.links - ends.blocks) / 8,
-        gaps: (ends.gaps - ends.links) / 8,
-        scratch: scratch_words(entry.number, ends.scratch),
-        counts: 0,
-        out: 0,
-    };
-    if entry.number == PREVIEW {
-        lent.counts = size_of(entry);
-    } else {
-        lent.out = size_of(entry);
-    }
-    lent
-}
-
-// More than enough for each recording, and not a whole number of rows.
-pub(crate) fn plenty(number: u8) -> Lent {
-    let mut lent = Lent {
-        visited: VISITED,
-        blocks: BLOCKS - 1,
-        links: LINKS - 1,
-        gaps: GAPS - 1,
-        scratch: 0,
-        counts: 0,
-        out: 0,
-    };
-    if is_clearing(number) {
-        lent.scratch = SCRATCH - 1;
-    }
-    if number == PREVIEW {
-        lent.counts = COUNTS;
-        return lent;
-    }
-    if number == LAYOUT {
-        return lent;
-    }
-    if number != BLANK {
-        lent.out = OUT;
-    }
-    lent
 }

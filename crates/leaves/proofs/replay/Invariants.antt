@@ -1,10 +1,9 @@
--- `replay` ends: each record takes it on, and there are never more records than bytes.
-use Prim.Native.Nat.{◌-◌, ◌≤◌}
-use lib.ListN.{length}
+-- `replay` ends, as each record takes bytes, and no more records are read than bytes.
+use Rattle.std.proofs.Common.{◌+◌, ◌≤◌, length}
 use Rattle.leaves.proofs.replay.Given as goal
 
-abbrev pub invariant-loop-at : goal.invariant-loop-at
-invariant-loop-at g l = (l.at ≤ length l.b) × (l.read ≤ l.at) × (l.differ ≤ l.read)
+abbrev pub invariant-loop-rest : goal.invariant-loop-rest
+invariant-loop-rest g l = (l.read + length l.rest ≤ length l.b) × (l.differ ≤ l.read)
 
-abbrev pub decreases-loop-at : goal.decreases-loop-at
-decreases-loop-at g l = length l.b - l.at
+abbrev pub decreases-loop-rest : goal.decreases-loop-rest
+decreases-loop-rest g l = length l.rest

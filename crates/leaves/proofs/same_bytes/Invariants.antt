@@ -1,9 +1,0 @@
--- `same_bytes` ends, and stays inside both.
-use Prim.Native.Nat.{◌≤◌, ◌-◌}
-use Rattle.leaves.proofs.same_bytes.Given as goal
-
-abbrev pub invariant-loop-i : goal.invariant-loop-i
-invariant-loop-i l = l.i ≤ l.n
-
-abbrev pub decreases-loop-i : goal.decreases-loop-i
-decreases-loop-i l = l.n - l.i

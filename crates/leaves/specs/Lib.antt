@@ -1,2 +1,0 @@
--- What the program's loop goes by.
-pub mod Onward
