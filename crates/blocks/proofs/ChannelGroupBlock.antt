@@ -14,7 +14,7 @@ use Rattle.blocks.specs.declared.common.BlockHeader.{BlockHeader}
 use Rattle.blocks.specs.Headers.{marked_or}
 use Rattle.blocks.specs.Parse.{parsed, IsOwn}
 use Rattle.blocks.specs.Extents.{need_or}
-use Rattle.blocks.proofs.Extents.{headed, marked_headed, found, header_refused, by_need, own}
+use Rattle.blocks.proofs.Extents.{headed, marked_headed, found, header_refused, by_need, own, head_refused}
 
 pub cg_headed : (r : List ℕ) (a : ℕ) → marked_or r a 104 0x47432323 ≡ headed CG r a
 unfolding shape little
@@ -50,3 +50,6 @@ cg_fits x =
     let l : length _ ≡ 24 + 8 * links_nr h + 32 + 0 = w.len in
     let s : 6 ≤ links_nr h = leb-true 6 (links_nr h) (both_true _ _ w.sound) in
     (omega (arith, l, s), omega (arith, l, w.links))
+
+-- what the extent's answers rest on
+pub ruleset extent_laws = (found, head_refused, cg_headed, cg_sound, cg_unsound)

@@ -17,7 +17,7 @@ use Rattle.blocks.specs.Headers.{inside_or}
 use Rattle.blocks.specs.Parse.{parsed, IsOwn}
 use Rattle.blocks.specs.Extents.{need_or}
 use Rattle.blocks.specs.DataListBlock.{data_list_block_of, behind_links, ListFits}
-use Rattle.blocks.proofs.Extents.{headed, unmarked_headed, found, header_refused, by_needs, needs_or, need_ok, own, own_of}
+use Rattle.blocks.proofs.Extents.{headed, unmarked_headed, found, header_refused, by_needs, needs_or, need_ok, own, own_of, head_refused}
 use Rattle.blocks.proofs.Parse.{parsed_ok}
 
 pub dl_headed : (r : List ℕ) (a : ℕ) → inside_or r a 24 ≡ headed DL r a
@@ -103,3 +103,8 @@ pub links_there : (r : List ℕ) (a n : ℕ) {m f d w : ℕ} {x : Out ℕ} → o
     → x ≡ need_or (length r) a (m + 8 * w) → x ≡ behind_links r a n
 unfolding behind_links and_then
 links_there r a n e p q s t = rw (← e, t, s, p, q)
+
+-- what the extent's answers rest on
+pub ruleset extent_laws = (found, head_refused, dl_headed, dl_sound, dl_unsound)
+
+pub ruleset links_laws = (need_ok, links_refused, links_there)

@@ -14,7 +14,7 @@ use Rattle.blocks.specs.declared.common.BlockHeader.{BlockHeader}
 use Rattle.blocks.specs.Headers.{marked_or}
 use Rattle.blocks.specs.Parse.{parsed, IsOwn}
 use Rattle.blocks.specs.Extents.{need_or}
-use Rattle.blocks.proofs.Extents.{headed, marked_headed, found, by_need, own}
+use Rattle.blocks.proofs.Extents.{headed, marked_headed, found, by_need, own, head_refused}
 
 -- the links that the definition shows
 pub three : (o : List ℕ) (n : ℕ) → take 3 (words o 24 (min 3 n) ++ 0 ∷ 0 ∷ 0 ∷ [])
@@ -44,3 +44,6 @@ si_fits x =
     let w = own x in
     let l : length _ ≡ 24 + 8 * links_nr (bytes x.recording x.at 24) + 3 + 0 = w.len in
     omega (arith, l, w.links)
+
+-- what the extent's answers rest on
+pub ruleset extent_laws = (found, head_refused, si_headed, si_needs)

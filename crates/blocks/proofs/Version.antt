@@ -110,20 +110,6 @@ minor_some e (b ∷ s) h = refl
 
 -- ---- the version
 
-module _ (t : List ℕ) where
-  pub major_refused : {e : Refusal} → err e ≡ parse_u16 (refusal 3 8 2 0) (before_dot t) → err e ≡ version_of_text t
-  unfolding version_of_text and_then
-  major_refused p = rw (← p)
-
-  module _ {major : ℕ} (p : ok major ≡ parse_u16 (refusal 3 8 2 0) (before_dot t)) where
-    pub minor_refused : {e : Refusal} → err e ≡ parse_minor (refusal 3 8 3 0) (from_dot t) → err e ≡ version_of_text t
-    unfolding version_of_text and_then
-    minor_refused q = rw (← p, ← q)
-
-    pub version_made : {minor : ℕ} → ok minor ≡ parse_minor (refusal 3 8 3 0) (from_dot t) → version_number major minor ≡ version_of_text t
-    unfolding version_of_text and_then
-    version_made q = rw (← p, ← q)
-
 pub version_bad : (v : List ℕ) → valid_utf8 v ≡ false → err (refusal 3 8 1 0) ≡ version v
 unfolding version and_then check
 version_bad v e = rw e

@@ -68,6 +68,7 @@ impl BlockParse for ChannelBlock {
         }
     }
 
+    #[tactic(auto, using(crate::proofs::Fixed::fixed_cn))]
     fn extent(file: &[u8], offset: u64) -> Result<u64, MdfError> {
         fixed_extent(file, offset, Self::MIN_LEN, Self::ID)
     }

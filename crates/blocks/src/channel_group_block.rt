@@ -90,6 +90,7 @@ impl BlockParse for ChannelGroupBlock {
         }
     }
 
+    #[tactic(auto, using(crate::proofs::ChannelGroupBlock::extent_laws))]
     fn extent(file: &[u8], offset: u64) -> Result<u64, MdfError> {
         let header = BlockHeader::parse_marked(file, offset, Self::MIN_LEN, Self::ID)?;
         if !ChannelGroupBlock::header_ok(header) {

@@ -42,7 +42,8 @@ impl BlockHeader {
         }
     }
 
-    // `bytes_at`, then the header: at least `needed` bytes have to be there.
+    // `bytes_at`, then the header: at least `needed` bytes have to be there, the header's among them. That is asked here, in `parse_marked`
+    // and in `Reader::header`: a type for such a length would be made by each caller from its constant, for one call.
     pub fn parse(file: &[u8], offset: u64, needed: u64) -> Result<BlockHeader, MdfError>
         requires { 24 ≤ needed }
         ensures { told result ≡ inside_or file.now offset needed }

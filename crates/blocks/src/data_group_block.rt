@@ -43,6 +43,7 @@ impl BlockParse for DataGroupBlock {
         }
     }
 
+    #[tactic(auto, using(crate::proofs::Fixed::fixed_dg))]
     fn extent(file: &[u8], offset: u64) -> Result<u64, MdfError> {
         fixed_extent(file, offset, Self::MIN_LEN, Self::ID)
     }

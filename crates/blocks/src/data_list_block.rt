@@ -63,7 +63,7 @@ impl DataListBlock {
     }
 
     // Both length tests: for the links and what the flags ask for behind them.
-    #[tactic(auto, using(crate::proofs::Extents::need_ok))]
+    #[tactic(auto, using(crate::proofs::DataListBlock::links_laws))]
     fn behind_links(file: &[u8], offset: u64, links_nr: u64) -> Result<u64, MdfError>
         requires { offset ≤ length file.now }
         ensures { told result ≡ behind_links file.now offset links_nr }
@@ -104,6 +104,7 @@ impl BlockParse for DataListBlock {
         }
     }
 
+    #[tactic(auto, using(crate::proofs::DataListBlock::extent_laws))]
     fn extent(file: &[u8], offset: u64) -> Result<u64, MdfError> {
         let header = BlockHeader::parse(file, offset, Self::MIN_LEN)?;
         if header.links_nr == 0 {

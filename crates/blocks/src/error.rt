@@ -99,6 +99,7 @@ pub struct Refusal {
     pub b: u64,
 }
 
+// A refusal's four numbers in document 01's order.
 fn four(number: u64, place: u64, a: u64, b: u64) -> Refusal
     ensures { refusal_of result ≡ spec.refusal number place a b }
 {
@@ -111,6 +112,7 @@ fn four(number: u64, place: u64, a: u64, b: u64) -> Refusal
 }
 
 impl MdfError {
+    // No From: by its name the call says what is read of the error, as the definition does.
     pub fn numbers(self) -> Refusal
         ensures { refusal_of result ≡ numbers self }
     {

@@ -26,7 +26,8 @@ pub fn need_from_block(len: u64, offset: u64, least: u64, words: u64) -> Result<
 }
 
 // Of a kind with the mark `id` of which `len` bytes are read whatever its header says.
-pub fn fixed_extent(file: &[u8], offset: u64, len: u64, id: u32) -> Result<u64, MdfError>
+#[tactic(auto, using(crate::proofs::Fixed::fixed_refused, crate::proofs::Fixed::fixed_read))]
+pub(crate) fn fixed_extent(file: &[u8], offset: u64, len: u64, id: u32) -> Result<u64, MdfError>
     requires { 24 ≤ len }
     ensures { (k : spec.Kind) → IsFixed k len id → told result ≡ parsed length k file.now offset }
 {

@@ -53,6 +53,7 @@ impl BlockParse for HeaderBlock {
         }
     }
 
+    #[tactic(auto, using(crate::proofs::Fixed::fixed_hd))]
     fn extent(file: &[u8], offset: u64) -> Result<u64, MdfError> {
         fixed_extent(file, offset, Self::MIN_LEN, Self::ID)
     }

@@ -40,6 +40,7 @@ fn digits(text: &[u8], part: VersionPart) -> Result<u16, MdfError>
 }
 
 // As Rust's parse::<u16>: a '+' may stand before the digits.
+#[tactic(auto, using(crate::proofs::Version::parse_plus, crate::proofs::Version::parse_plain))]
 fn parse_u16(text: &[u8], part: VersionPart) -> Result<u16, MdfError>
     ensures { told result ≡ parse_u16 (refusal 3 8 (part_number part) 0) text.now }
 {
@@ -80,6 +81,7 @@ fn number_of(major: u16, minor: u16) -> Result<u16, MdfError>
 }
 
 // The version of a trimmed text.
+#[tactic(auto, unfolding(crate::specs::IdentificationBlock::version_of_text, mdf4::specs::Act::and_then))]
 fn version_of(text: &[u8]) -> Result<u16, MdfError>
     ensures { told result ≡ version_of_text text.now }
 {
@@ -107,6 +109,7 @@ impl<'a> IdentificationBlock<'a> {
     // "MDF     "
     pub const FILE_IDENTIFIER: u64 = 0x2020_2020_2046_444d;
 
+    #[tactic(auto, using(crate::proofs::Version::version_bad, crate::proofs::Version::version_good))]
     pub fn parse_block_version(text: &[u8]) -> Result<u16, MdfError>
         ensures { told result ≡ version text.now }
     {

@@ -23,7 +23,9 @@ impl<'a> MetadataBlock<'a> {
 
     pub const MIN_LEN: u64 = BlockHeader::LEN;
 
-    // NULs are off both ends.
+    // NULs are off both ends. It stays beside `TextBlock::parse`, whose text is cut otherwise and has another definition and name: what
+    // they share is `text_range`.
+    #[tactic(auto, using(crate::proofs::Texts::md_read, crate::proofs::Texts::md_at))]
     pub fn parse(file: &'a [u8], offset: u64) -> Result<MetadataBlock<'a>, MdfError>
         ensures read { IfOk result (λ b. TextAt MD md_text file.now offset b.block_len b.xml.now) }
         ensures refused { IfErr result (λ e. read_block MD file.now offset ≡ err (numbers e)) }

@@ -1,4 +1,5 @@
 // The recording's bytes and an offset in them: the Rust's `bytes_at`. The reader hands out fields, not the bytes.
+// The parsers take the two as they are, since their callers hold them so: to make a reader at each call is no plainer.
 ghost use Rattle.std.specs.Prelude.{◌≡◌, ◌+◌, ◌≤◌, length};
 ghost use Rattle.mdf4.specs.Bytes.{num};
 ghost use Rattle.blocks.specs.Errors.{told};

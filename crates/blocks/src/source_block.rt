@@ -65,6 +65,7 @@ impl BlockParse for SourceBlock {
         }
     }
 
+    #[tactic(auto, using(crate::proofs::SourceBlock::extent_laws))]
     fn extent(file: &[u8], offset: u64) -> Result<u64, MdfError> {
         let header = BlockHeader::parse_marked(file, offset, Self::MIN_LEN, Self::ID)?;
         need_from_block(

@@ -54,6 +54,7 @@ impl<'a> TextBlock<'a> {
     pub const MIN_LEN: u64 = BlockHeader::LEN;
 
     // The text ends before its first NUL.
+    #[tactic(auto, using(crate::proofs::Parts::part_front, crate::proofs::Texts::tx_at))]
     pub fn parse(file: &'a [u8], offset: u64) -> Result<TextBlock<'a>, MdfError>
         ensures read { IfOk result (λ b. TextAt TX tx_text file.now offset b.block_len b.text.now) }
         ensures refused { IfErr result (λ e. read_block TX file.now offset ≡ err (numbers e)) }

@@ -147,10 +147,6 @@ module _ (r : List ℕ) (a : ℕ) (some : a ≡ 0 → ⊥) where
               go false h = name_short (leb-false 24 long h)
 
 -- what the walk asks of a name is the same
-pub name_passed : (r : List ℕ) (l : Link) {x : List ℕ} → ok x ≡ name_at r l → name_check (length r) l (name_head r l) ≡ ok tt
-unfolding name_at
-name_passed r l {x} e = (and_then_ok (name_check (length r) l (name_head r l)) _ x (sym e)).1
-
 pub name_stopped : (r : List ℕ) (l : Link) {e : Refusal} → err e ≡ name_at r l → name_check (length r) l (name_head r l) ≡ err e
 unfolding name_at
 name_stopped r l e = ok_only (name_check (length r) l (name_head r l)) (λ u. name_text (name_bytes r l)) _ (sym e)
@@ -193,3 +189,6 @@ module _ (r : List ℕ) (a : ℕ) (small : length r < 2 ^ 64) where
       go : (t : Bool) → name_is_text (length r) (make_link r a) ≡ t → name_text (name_bytes r (make_link r a)) ≡ []
       go true h = text_none h (name_stopped r (make_link r a) q)
       go false h = unfold name_bytes in rw h nameless
+
+-- what the answers of read_text_at rest on
+pub ruleset name_laws = (null_name, name_past, name_outside, name_other, name_long, name_unread, name_whole)

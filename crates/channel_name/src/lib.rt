@@ -20,6 +20,7 @@ fn past_u64(a: u64, b: u64) -> MdfError
 
 // The name's bytes, NULs off both ends; none where no text is read: the name is then empty. Where the Rust panics, on a
 // block_len under 24, there is none (document 02, order 2).
+#[tactic(auto, using(crate::proofs::Names::name_laws))]
 pub fn read_text_at(file: &[u8], addr: u64) -> Result<Option<&[u8]>, MdfError>
     ensures says { name_read result ≡ name_at file.now (make_link file.now addr) }
     ensures part { IfOk result (λ name. IfSome name (λ text. IsPart file.now text.now)) }

@@ -1,5 +1,4 @@
 -- Laws that the proofs of the writers cite.
-pub mod Numbers
 pub mod Own
 pub mod Said
 pub mod Lines

@@ -4,12 +4,10 @@ use Rattle.fmt.specs.Text.{ascii}
 use Rattle.fmt.specs.Format.{format}
 use Rattle.mdf4.specs.Bytes.{bytes, num}
 use Rattle.mdf4.specs.Act.{ID, HD, CG, CN, DT, DL}
-use Rattle.blocks.specs.declared.kind.Kind.{Kind}
 use Rattle.blocks.specs.declared.kind.Kind.TheVariants as kind
-use Rattle.blocks.specs.Kind.{kind_named}
 use Rattle.mdf4.specs.Describe.{extra_line, extra_of, indented, records, payload, trailing_bytes}
 use Rattle.tables.specs.declared.BlockInfo.{BlockInfo}
-use Rattle.tables.specs.Rows.{kind_of, row_of}
+use Rattle.tables.specs.Rows.{row_of}
 use Rattle.blocks.specs.declared.header_block.HeaderBlock.{HeaderBlock}
 use Rattle.blocks.specs.declared.channel_group_block.ChannelGroupBlock.{ChannelGroupBlock}
 use Rattle.blocks.specs.declared.channel_block.ChannelBlock.{ChannelBlock}
@@ -59,7 +57,7 @@ unfolding extra_of row_of
 dt_line o = lined o
 
 -- the other kinds have no line
-pub no_line : (r : List ℕ) (b : BlockInfo) (k : Kind) → kind_named k ≡ kind_of b.kind
-    → (k ≡ kind.DG) ⊎ ((k ≡ kind.SI) ⊎ ((k ≡ kind.TX) ⊎ ((k ≡ kind.MD) ⊎ ((k ≡ kind.SD) ⊎ ((k ≡ kind.UT) ⊎ (k ≡ kind.UD)))))) → extra_line r (row_of b) ≡ []
+pub no_line : (r : List ℕ) (b : BlockInfo)
+    → (b.kind ≡ kind.DG) ⊎ ((b.kind ≡ kind.SI) ⊎ ((b.kind ≡ kind.TX) ⊎ ((b.kind ≡ kind.MD) ⊎ ((b.kind ≡ kind.SD) ⊎ ((b.kind ≡ kind.UT) ⊎ (b.kind ≡ kind.UD)))))) → extra_line r (row_of b) ≡ []
 unfolding extra_line extra_of row_of
-no_line r b k e h = rw (← e) (grind arith)
+no_line r b h = grind arith

@@ -7,7 +7,7 @@ use Rattle.mdf4.specs.Reads.{links_at}
 use Rattle.mdf4.specs.Describe.{describe_of, extra_of, block_bytes, row_name, name_bytes, describe, extra_line}
 use Rattle.mdf4.proofs.Reading.{read_whole}
 use Rattle.tables.specs.declared.BlockInfo.{BlockInfo}
-use Rattle.tables.specs.Rows.{kind_of, row_of}
+use Rattle.tables.specs.Rows.{row_of}
 use Rattle.blocks.specs.declared.error.MdfError.{MdfError}
 use Rattle.blocks.specs.Errors.{told}
 use Rattle.blocks.specs.Parse.{parsed}

@@ -6,8 +6,7 @@ ghost use Rattle.std.specs.Prelude.{◌≡◌};
 ghost use Rattle.fmt.specs.Text.{Writes};
 ghost use Rattle.mdf4.specs.Describe.{describe, extra_line, mark_bytes, mark_text, mark_column};
 ghost use Rattle.mdf4.proofs.Good.{Readable};
-ghost use Rattle.tables.specs.Rows.{kind_of, row_of};
-ghost use Rattle.blocks.specs.Kind.{kind_named};
+ghost use Rattle.tables.specs.Rows.{row_of};
 
 use crate::descriptions::{
     describe_channel, describe_channel_group, describe_data, describe_data_group,
@@ -27,13 +26,6 @@ pub mod descriptions;
 pub mod extras;
 mod fields;
 pub mod links;
-
-// The kind of a row by its number; a number that is no kind's is an unknown data block's.
-pub fn row_kind(number: u64) -> Kind
-    ensures { kind_named result ≡ kind_of number }
-{
-    Kind::try_from(number).unwrap_or(Kind::UD)
-}
 
 // The four bytes of a mark.
 fn bytes_of(mark: u64) -> [u8; 4]
@@ -58,12 +50,13 @@ pub fn put_mark_column(page: &mut Page<'_>, mark: u64)
     page.put_times(b' ', 6usize.saturating_sub(count_chars(&bytes_of(mark))));
 }
 
-// The description of a block.
+// The description of a block. That it can be read is asked here, of the line below it and where both are called: a struct of
+// recording and row that knows it would be made by each caller for one call, and be taken apart in it.
 pub fn put_description(page: &mut Page<'_>, file: &[u8], block: &BlockInfo)
     requires { Readable file.now (row_of block.now) }
     ensures { Writes page.old (describe file.now (row_of block.now)) page.new }
 {
-    match row_kind(block.kind) {
+    match block.kind {
         Kind::ID => describe_identification(page, file, block),
         Kind::HD => describe_header(page, file, block),
         Kind::DG => describe_data_group(page, file, block),
@@ -85,7 +78,7 @@ pub fn put_extra(page: &mut Page<'_>, file: &[u8], block: &BlockInfo)
     requires { Readable file.now (row_of block.now) }
     ensures { Writes page.old (extra_line file.now (row_of block.now)) page.new }
 {
-    match row_kind(block.kind) {
+    match block.kind {
         Kind::ID => extra_identification(page, file, block),
         Kind::HD => extra_header(page, file, block),
         Kind::CG => extra_channel_group(page, file, block),

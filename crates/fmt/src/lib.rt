@@ -197,7 +197,7 @@ fn takes_of(b: u8) -> usize
     usize::from(matches!(b, b'%' | b'!' | b'*' | b'&' | b'^' | b'~' | b'$'))
 }
 
-// The number whose 16 bits are those of u, the highest one its sign.
+// The number whose 16 bits are those of u, the highest one its sign: std's cast, with the definition's value.
 pub fn signed16(u: u16) -> i16
     ensures { result ≡ i16_of u }
 {

@@ -1,4 +1,5 @@
-// Little-endian numbers of a slice at an offset, as Rust's crate byteorder reads them.
+// Little-endian numbers of a slice at an offset, as Rust's crate byteorder reads them, by std's `from_le_bytes`. That crate's trait over
+// the byte order would have one case here.
 #![tactic(auto)]
 
 ghost use Rattle.std.specs.Prelude.{◌≡◌, ◌+◌, ◌≤◌, length};

@@ -1,10 +1,10 @@
--- The rows of a flat table as arrays, and the ranges that these tell.
+-- The rows of a flat table as arrays, and what these tell.
 use Rattle.std.proofs.Common.{◌≡◌, List, ℕ, zero, suc, ◌≤◌, take, drop, map, refl, arith}
 use lib.Seq.{get_or-take}
 use Rattle.std.specs.Simd.{first_chunks}
 use Rattle.mdf4.specs.Demand3.{ranges_in}
 use Rattle.tables.specs.Gaps.{range_of}
-use Rattle.tables.specs.Rows.{table}
+use Rattle.tables.specs.Rows.{table, row_of_words, link_of_words, held_rows, held_links}
 use Rattle.tables.proofs.Words.{table_cons}
 
 pub take-first_chunks : (w n m : ℕ) (t : List ℕ) → n ≤ m → take n (first_chunks w m t) ≡ table w (λ row. row) n t
@@ -12,6 +12,20 @@ unfolding table
 take-first_chunks w zero m t h = refl
 take-first_chunks w (suc n) zero t h = absurd (omega arith)
 take-first_chunks w (suc n) (suc m) t h = rw (table_cons w (λ row. row) n t, take-first_chunks w n m (drop w t) (omega arith))
+
+-- read by f
+pub table_of : {A : Type 0} (f : List ℕ → A) (w n : ℕ) (t : List ℕ) → map f (table w (λ row. row) n t) ≡ table w f n t
+unfolding table
+table_of f w zero t = refl
+table_of f w (suc n) t = rw (table_cons w (λ row. row) n t, table_cons w f n t, table_of f w n (drop w t))
+
+pub held_rows_are : (n : ℕ) (b : List ℕ) → map row_of_words (table 12 (λ row. row) n b) ≡ held_rows n b
+unfolding held_rows
+held_rows_are n b = table_of row_of_words 12 n b
+
+pub held_links_are : (m : ℕ) (l : List ℕ) → map link_of_words (table 2 (λ row. row) m l) ≡ held_links m l
+unfolding held_links
+held_links_are m l = table_of link_of_words 2 m l
 
 pub map-table : (w n : ℕ) (t : List ℕ) → 2 ≤ w → map range_of (table w (λ row. row) n t) ≡ ranges_in w n t
 unfolding table ranges_in

@@ -11,7 +11,6 @@ use borrow.Author.Tests.{lt-ltb, le-ltb}
 use Rattle.mdf4.specs.Bytes.{Range, concat_map}
 use Rattle.mdf4.specs.Layout.{gap, compute_gaps}
 use Rattle.mdf4.specs.Answers.{range_words}
-use Rattle.mdf4.specs.Demand3.{ranges_in}
 use Rattle.tables.specs.declared.RangeTable.{RangeTable}
 use Rattle.tables.specs.Gaps.{Page, page, push, pushes, Pushed, Pushes, Listed, range_of}
 
@@ -71,11 +70,6 @@ pub gaps_most : (len cursor : ℕ) (ps : List Range) → length (compute_gaps le
 unfolding compute_gaps
 gaps_most len cursor [] = omega (arith, gap_most cursor len)
 gaps_most len cursor (p ∷ ps) = rw length-append (omega (arith, gap_most cursor p.0, gaps_most len (max cursor p.1) ps))
-
-pub ranges_length : (w n : ℕ) (t : List ℕ) → length (ranges_in w n t) ≡ n
-unfolding ranges_in
-ranges_length w zero t = refl
-ranges_length w (suc n) t = ap suc (ranges_length w n (drop w t))
 
 -- all that is pushed
 

@@ -5,5 +5,6 @@ pub mod Rows
 pub mod Ordering
 pub mod Gapping
 pub mod Tables
+pub mod Numbers
 pub mod Words
 pub mod Chunks

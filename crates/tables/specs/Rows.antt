@@ -2,6 +2,7 @@
 use Rattle.std.specs.Prelude.{◌≡◌, List, [], ◌∷◌, ◌++◌, ℕ, zero, suc, ◌*◌, ◌≤◌, length, get_or, take, drop}
 use Rattle.mdf4.specs.Act.{Kind, ID, HD, DG, CG, CN, SI, TX, MD, DT, SD, DL, UT, UD, Row, Link}
 use Rattle.mdf4.specs.Answers.{block_row_words, pair_words, filled}
+use Rattle.blocks.specs.Kind.{kind_named, number_of}
 use Rattle.tables.specs.declared.BlockInfo.{BlockInfo}
 
 -- the kind of document 01's number
@@ -31,7 +32,7 @@ row_of b = record {
   end = b.end_offset;
   size = b.size;
   mark = b.mark;
-  kind = kind_of b.kind;
+  kind = kind_named b.kind;
   index = b.index;
   first_link = b.first_link;
   link_count = b.link_count;
@@ -42,7 +43,7 @@ row_of b = record {
 
 abbrev pub info_words : BlockInfo → List ℕ
 info_words b =
-    b.offset ∷ b.end_offset ∷ b.size ∷ b.mark ∷ b.kind ∷ b.index ∷ b.first_link ∷ b.link_count ∷ b.record_size ∷ b.invalidation_bytes ∷ b.record_id_len ∷ 0 ∷ []
+    b.offset ∷ b.end_offset ∷ b.size ∷ b.mark ∷ number_of b.kind ∷ b.index ∷ b.first_link ∷ b.link_count ∷ b.record_size ∷ b.invalidation_bytes ∷ b.record_id_len ∷ 0 ∷ []
 
 unfoldable pub link_of_words : List ℕ → Link
 link_of_words t = record { target = get_or t 0 0; found = get_or t 1 0 }

@@ -254,7 +254,7 @@ pub fn trim_start_nuls(text: &[u8]) -> &[u8]
     &text[nuls..]
 }
 
-// The text with NULs off its end.
+// The text with NULs off its end. With its start's it has no line in common but the test of a byte.
 pub fn trim_end_nuls(text: &[u8]) -> &[u8]
     ensures front { result.now ≡ take (length result.now) text.now }
     ensures trimmed { result.now ≡ trim_end_nuls text.now }

@@ -11,7 +11,7 @@ use Rattle.mdf4.specs.Walk.{Block, link_of, enter, walk_data_block, walk_data_li
 use Rattle.blocks.specs.declared.error.MdfError.{MdfError}
 use Rattle.walk_state.specs.declared.Walker.{Walker}
 use Rattle.walk_state.specs.Held.{holds, Keeps, Does, Walks}
-use Rattle.walk_state.proofs.Steps.{keeps_same, keeps_then, then, next, halt, halt_next, done, alike}
+use Rattle.walk_state.proofs.Steps.{keeps_then, then, next, halt, halt_next, done, alike}
 use Rattle.walk_blocks.specs.Regions.{open_list, enter_list, data_list, links_at, listed}
 use Rattle.walk_blocks.proofs.DataLists.{words_length, words_at}
 
@@ -106,9 +106,6 @@ pub record Turning (d : ℕ) (h : RecordLayout) (a n : ℕ) (w0 w : Walker) (i :
   pub keeps : Keeps w0 w
   pub rest : {r : std.Result (Unit {0}) MdfError} {w2 : Walker} → Walks w r w2 (each (walk_data_region d h) (drop i (links_at w0.file.now a n)))
       → Walks w0 r w2 (each (walk_data_region d h) (drop 1 (links_at w0.file.now a n)))
-
-pub turn_none : {d : ℕ} {h : RecordLayout} {a n : ℕ} {w : Walker} → Turning d h a n w w 1
-turn_none = record { keeps = keeps_same; rest = λ p. p }
 
 each_next : (f : Link → Act (Unit {0})) (ls : List Link) (i : ℕ) → i < length ls
     → each f (drop i ls) ≡ f (get_or ls i null) >> each f (drop (i + 1) ls)

@@ -49,6 +49,19 @@ enter_text_is : (a : ℕ) (r : List ℕ) (s : State) → (enter (text_kind (byte
 unfolding enter_text ◌>>◌ pure
 enter_text_is a r s = refl
 
+-- the text at a, read or refused
+module _ (a : ℕ) {w : Walker} where
+  text_entered : {w1 : Walker} {r : std.Result (Unit {0}) MdfError}
+      → Walks w r w1 (enter (text_kind (bytes w.file.now a 24)) a (no_records 0) >> pure tt) → Walks w r w1 (enter_text a)
+  text_entered p = alike (enter_text_is a w.file.now (holds w)) p
+
+  pub text_refused : {e : MdfError} → read_block (text_kind (bytes w.file.now a 24)) w.file.now a ≡ err (numbers e) → Walks w (std.Err e) w (enter_text a)
+  text_refused {e} p = text_entered (dropped {g = λ (u : Unit {0}). u} (std.Err e) (λ u. refl) (enter_refused _ a (no_records 0) p))
+
+  pub text_listed : {w1 : Walker} {x : Block} {r : std.Result (Unit {0}) MdfError} (p : Found (text_kind (bytes w.file.now a 24)) (no_records 0) w.file.now a x [])
+      → Lists (no_records 0) p.own [] x w r w1 → Walks w r w1 (enter_text a)
+  text_listed {r} p q = text_entered (dropped r (λ u. refl) (found_enters p q))
+
 -- a text whose offset is marked
 abbrev text_body : ℕ → Act (Unit {0})
 text_body a = sized λ n. choose (ltb (a + 24) (2 ^ 64)) (choose (leb (a + 24) n) (enter_text a) (pure tt)) (stop UT a (refusal 7 a a 24))
@@ -60,21 +73,8 @@ module _ (a : ℕ) {w : Walker} where
   pub text_short : a + 24 < 2 ^ 64 → length w.file.now < a + 24 → Walks w (std.Ok tt) w (text_body a)
   text_short h i = measured _ (yes _ (lt-ltb (a + 24) (2 ^ 64) h) (no _ (lt-leb (a + 24) (length w.file.now) i) (done refl)))
 
-  module _ (h : a + 24 < 2 ^ 64) (i : a + 24 ≤ length w.file.now) where
-    text_there : {w1 : Walker} {r : std.Result (Unit {0}) MdfError}
-        → Walks w r w1 (enter (text_kind (bytes w.file.now a 24)) a (no_records 0) >> pure tt) → Walks w r w1 (text_body a)
-    text_there p =
-        measured _ (yes _ (lt-ltb (a + 24) (2 ^ 64) h)
-        (yes _ (le-leb (a + 24) (length w.file.now) i) (alike (enter_text_is a w.file.now (holds w)) p)))
-
-    pub text_refused : {e : MdfError} → read_block (text_kind (bytes w.file.now a 24)) w.file.now a ≡ err (numbers e)
-        → Walks w (std.Err e) w (text_body a)
-    text_refused {e} p = text_there (dropped {g = λ (u : Unit {0}). u} (std.Err e) (λ u. refl) (enter_refused _ a (no_records 0) p))
-
-    pub text_listed : {w1 : Walker} {x : Block} {r : std.Result (Unit {0}) MdfError}
-        (p : Found (text_kind (bytes w.file.now a 24)) (no_records 0) w.file.now a x [])
-        → Lists (no_records 0) p.own [] x w r w1 → Walks w r w1 (text_body a)
-    text_listed {r} p q = text_there (dropped r (λ u. refl) (found_enters p q))
+  pub text_there : a + 24 < 2 ^ 64 → a + 24 ≤ length w.file.now → {w1 : Walker} {r : std.Result (Unit {0}) MdfError} → Walks w r w1 (enter_text a) → Walks w r w1 (text_body a)
+  text_there h i p = measured _ (yes _ (lt-ltb (a + 24) (2 ^ 64) h) (yes _ (le-leb (a + 24) (length w.file.now) i) p))
 
 -- the mark of a kind whose mark is tested
 pub mark_tested : (k : Kind) (r : List ℕ) (a : ℕ) (o : List ℕ) → (shape k).tested ≡ true → read_block k r a ≡ ok o → num r a 4 ≡ (shape k).mark

@@ -36,6 +36,15 @@ fn read_text(file: &[u8], addr: u64) -> Result<Block, MdfError>
     Ok(Block::plain(addr, header.block_len, mark, Kind::UT))
 }
 
+// Reads the text at an address and lists it.
+fn enter_text(walker: &mut Walker<'_>, addr: u64) -> Result<(), MdfError>
+    requires { addr + 24 ≤ length walker.old.file.now }
+    ensures { Walks walker.old result walker.new (walk.enter_text addr) }
+{
+    let block = read_text(walker.file, addr)?;
+    walker.list_block(block, &[])
+}
+
 // Walks a text, metadata or an unknown block: with fewer than 24 bytes left it is visited and not listed.
 pub fn walk_text_like(walker: &mut Walker<'_>, addr: u64) -> Result<(), MdfError>
     ensures { Walks walker.old result walker.new (walk.walk_text_like addr) }
@@ -56,8 +65,7 @@ pub fn walk_text_like(walker: &mut Walker<'_>, addr: u64) -> Result<(), MdfError
     if (walker.file.len() as u64) < end {
         return Ok(());
     }
-    let block = read_text(walker.file, addr)?;
-    walker.list_block(block, &[])
+    enter_text(walker, addr)
 }
 
 // Walks a source, and its name, path and comment.

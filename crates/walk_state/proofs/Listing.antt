@@ -12,7 +12,7 @@ use Rattle.mdf4.specs.Walk.{targets_ok, index_of, row_of, push, after_reading}
 use Rattle.mdf4.specs.Answers.{row_words}
 use Rattle.tables.specs.Rows.{held_links, link_of_words, info_words}
 use Rattle.tables.proofs.Tables.{table_length}
-use Rattle.blocks.specs.Kind.{kind_named, number_of}
+use Rattle.blocks.specs.Kind.{kind_named}
 use Rattle.blocks.specs.Errors.{numbers}
 use Rattle.blocks.specs.declared.error.MdfError.{MdfError}
 use Rattle.walk_state.specs.declared.Block as declared
@@ -24,14 +24,14 @@ use Rattle.walk_state.proofs.States.{links_held}
 use Rattle.walk_state.proofs.Steps.{keeps_same, keeps_then}
 
 -- the words of the row of a block with n links
-pub words_made : (x : declared.Block) (n : ℕ) (w : Walk) (v b l : List ℕ) (k i f : ℕ) → k ≡ number_of x.kind → i ≡ indexed w (kind_named x.kind)
+pub words_made : (x : declared.Block) (n : ℕ) (w : Walk) (v b l : List ℕ) (i f : ℕ) → i ≡ indexed w (kind_named x.kind)
     → f ≡ cond (eqb n 0) 0 w.links
     → info_words (record {
       offset = x.offset;
       end_offset = x.offset + x.size;
       size = x.size;
       mark = x.mark;
-      kind = k;
+      kind = x.kind;
       index = i;
       first_link = f;
       link_count = n;
@@ -40,7 +40,7 @@ pub words_made : (x : declared.Block) (n : ℕ) (w : Walk) (v b l : List ℕ) (k
       record_id_len = x.layout.record_id_len;
     }) ≡ row_words [] (row_made x n (held w v b l))
 unfolding row_words row_made index_of indexed elem bit held held_links
-words_made x n w v b l k i f p q r = rw (p, q, r, table_length 2 link_of_words w.links l)
+words_made x n w v b l i f q r = rw (q, r, table_length 2 link_of_words w.links l)
 
 -- a loop over the targets: what is left at turn i
 pub targets_next : (ts : List ℕ) (i t : ℕ) → i < length ts → t ≡ get_or ts i 0

@@ -222,7 +222,7 @@ impl<'a> Walker<'a> {
             end_offset: block.offset + block.size,
             size: block.size,
             mark: block.mark,
-            kind: u64::from(block.kind),
+            kind: block.kind,
             index: self.walk.index_of(block.kind),
             first_link: if count == 0 {
                 0

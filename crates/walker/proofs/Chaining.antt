@@ -9,9 +9,9 @@ use lib.Dec.{eqb}
 use lib.ListN.{length}
 use lib.Seq.{length-take-le}
 use borrow.Author.Tests.{ne_eqb, eqb-false}
-use Rattle.std.specs.Prelude.{Result, Ok, Err}
+use Rattle.std.specs.Prelude.{Ok, Err}
 use Rattle.mdf4.specs.Act as spec
-use Rattle.mdf4.specs.Act.{Refusal, Stop, ok, err, State, Act, reason, chain}
+use Rattle.mdf4.specs.Act.{Refusal, Stop, ok, err, Act, reason, chain}
 use Rattle.mdf4.proofs.Results.{never, reason_ok}
 use Rattle.mdf4.proofs.Fuel.{Moves, turn_ok, turn_no, turn_end}
 use Rattle.blocks.specs.Errors.{numbers}

@@ -23,7 +23,7 @@ use Rattle.walk_state.specs.declared.Block.{Block}
 use Rattle.walk_state.specs.declared.Walker.{Walker}
 use Rattle.walk_state.proofs.Steps.{alike}
 use Rattle.walker.specs.Chains.{entered}
-use Rattle.walker.specs.Channels.{channel_texts, channel_data, channel_links, enter_channel}
+use Rattle.walker.specs.Channels.{channel_data, channel_links, enter_channel}
 use Rattle.walker.proofs.Entering.{own_mark, Opened, behind}
 
 -- the targets of a channel's links

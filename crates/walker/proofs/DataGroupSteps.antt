@@ -1,8 +1,8 @@
 -- What the fields of a data group tell of its row and of the walk behind it. Assumes nothing.
 use Rattle.std.specs.Prelude as std
-use Rattle.std.proofs.Common.{◌≡◌, refl, sym, ap, ◌∙◌, false, ℕ, List, [], ◌∷◌, map}
+use Rattle.std.proofs.Common.{◌≡◌, refl, sym, ap, ◌∙◌, false, ℕ, List, [], ◌∷◌}
 use Rattle.mdf4.specs.Bytes.{little, num, words}
-use Rattle.mdf4.specs.Act.{ok, DG, Link, Act, pure, ◌>>=◌, ◌>>◌, chain}
+use Rattle.mdf4.specs.Act.{ok, DG, Link, pure, ◌>>=◌, ◌>>◌, chain}
 use Rattle.mdf4.specs.Kinds.{shape, is, no_records, mark_in, records_in, read_block, make_link, name_ok}
 use Rattle.mdf4.specs.Walk.{content_ok, addr, link_of, walk_text_like, walk_channel_group, walk_data_region, max_lists}
 use Rattle.blocks.specs.DataGroupBlock.{data_group_block_of}

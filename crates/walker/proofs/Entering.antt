@@ -3,7 +3,7 @@ use Rattle.std.specs.Prelude as std
 use Rattle.std.specs.Result.{IsErrAnd}
 use Rattle.std.proofs.Common.{◌≡◌, refl, sym, ◌∙◌, true, ℕ, List, map}
 use Rattle.mdf4.specs.Bytes.{num}
-use Rattle.mdf4.specs.Act.{Result, Stop, Out, ok, err, and_then, Kind, State, Act, pure, raise, ◌>>=◌, ◌>>◌}
+use Rattle.mdf4.specs.Act.{Result, Stop, Out, ok, err, and_then, Kind, State, Act, pure, raise, ◌>>=◌}
 use Rattle.mdf4.specs.Kinds.{shape, RecordLayout, read_block, make_link, name_ok}
 use Rattle.mdf4.specs.Walk.{Block, content_ok, list_block, enter}
 use Rattle.mdf4.proofs.Reading.{after_is}

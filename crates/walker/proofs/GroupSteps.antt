@@ -2,7 +2,7 @@
 use Rattle.std.specs.Prelude as std
 use Rattle.std.specs.Prelude.{Option, Some, None, unwrap_or}
 use Rattle.std.specs.Option.{option_or}
-use Rattle.std.proofs.Common.{◌≡◌, refl, sym, ap, ◌∙◌, Bool, true, false, ℕ, ◌+◌, ◌≤◌, ◌<◌, List, [], ◌∷◌, map, length, take}
+use Rattle.std.proofs.Common.{◌≡◌, refl, sym, ◌∙◌, true, false, ℕ, ◌≤◌, ◌<◌, List, [], ◌∷◌, take}
 use borrow.Author.Tests.{le-leb, lt-leb}
 use Rattle.mdf4.specs.Bytes.{little, num, words}
 use Rattle.mdf4.specs.Act.{Result, Stop, ok, err, and_then, CG, State, Act, pure, ◌>>=◌, ◌>>◌}

@@ -1,6 +1,6 @@
 -- What an identification and the fields of a header tell of their rows, and the walk behind a header. Assumes nothing.
 use Rattle.std.specs.Prelude as std
-use Rattle.std.proofs.Common.{◌≡◌, refl, sym, ℕ, List, [], ◌∷◌, map, length}
+use Rattle.std.proofs.Common.{◌≡◌, refl, sym, ℕ, List, [], ◌∷◌}
 use Rattle.mdf4.specs.Bytes.{little, num, words}
 use Rattle.mdf4.specs.Act.{Out, ok, err, and_then, ID, HD, ◌>>=◌, ◌>>◌}
 use Rattle.mdf4.specs.Kinds.{shape, is, no_records, mark_in, records_in, read_block, make_link, name_ok}

@@ -17,7 +17,8 @@ use walk_blocks::regions::{MAX_LISTS, walk_data_region};
 use walk_blocks::texts::{walk_conversion, walk_source, walk_text_like};
 use walk_state::{Block, RecordLayout, Walker};
 
-// The channel type with data of its own: variable length signal data.
+// The channel type with data of its own: variable length signal data. It is no enum's, as a recording's types are shown as numbers,
+// whatever they are, and no other one is told apart.
 const VLSD: u8 = 1;
 
 // Reads a channel, accepts its name and lists it.
@@ -88,7 +89,7 @@ pub fn walk_channel(walker: &mut Walker<'_>, addr: u64) -> Result<u64, MdfError>
     enter_channel(walker, addr)
 }
 
-// Walks a chain of channels.
+// Walks a chain of channels. Each one says where the next one stands, so no iterator of the library yields them.
 pub fn walk_channels(walker: &mut Walker<'_>, first: u64) -> Result<(), MdfError>
     ensures { (fuel : ℕ) → length walker.old.visited.now ≤ fuel → Walks walker.old result walker.new (spec.chain fuel walk.walk_channel first tt) }
 {

@@ -55,7 +55,8 @@ pub fn walk_data_group(walker: &mut Walker<'_>, addr: u64) -> Result<u64, MdfErr
     enter_data_group(walker, addr)
 }
 
-// Walks the chain of data groups.
+// Walks the chain of data groups. Its loop and that over channels stay two: one function for both would take the step as a closure over
+// the walker, and be no shorter than the four lines.
 pub fn walk_data_groups(walker: &mut Walker<'_>, first: u64) -> Result<(), MdfError>
     ensures { (fuel : ℕ) → length walker.old.visited.now ≤ fuel → Walks walker.old result walker.new (spec.chain fuel (walk.walk_data_group fuel) first tt) }
 {

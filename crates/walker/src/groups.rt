@@ -113,7 +113,7 @@ pub fn walk_channel_group(
     enter_channel_group(walker, addr, record_id_len)
 }
 
-// Walks a chain of channel groups: the first one's record layout is handed down.
+// Walks a chain of channel groups: the first one's record layout is handed down. Here too each one says where the next one stands.
 pub fn walk_channel_groups(
     walker: &mut Walker<'_>,
     first: u64,

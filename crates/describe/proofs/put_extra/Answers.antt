@@ -4,4 +4,4 @@ use Rattle.describe.proofs.Lines.{no_line}
 use Rattle.describe.proofs.put_extra.Goals as goal
 
 pub returns-in-DG : goal.returns-in-DG
-returns-in-DG c = rw (no_line c.args.file.now c.args.block.now c.row_kind.result c.row_kind.ensures c.in-DG.is) (writes_none _)
+returns-in-DG c = rw (no_line c.args.file.now c.args.block.now c.in-DG.is) (writes_none _)

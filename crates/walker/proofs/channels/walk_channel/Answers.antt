@@ -4,7 +4,6 @@ use Rattle.mdf4.specs.Act.{CN}
 use Rattle.mdf4.specs.Walk.{walk_channel}
 use Rattle.walk_state.proofs.Steps.{handed, once_halt, once_old, once_new}
 use Rattle.walker.specs.Channels.{enter_channel}
-use Rattle.walker.proofs.Entering.{behind}
 use Rattle.walker.proofs.channels.walk_channel.Goals as goal
 
 pub returns-in_err-mark : goal.returns-in_err-mark

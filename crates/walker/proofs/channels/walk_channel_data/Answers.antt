@@ -1,7 +1,6 @@
 -- `walk_channel_data` meets its contract: a channel of another type, or the answer of its data region.
 use mathlib.Core.Path.{refl}
 use borrow.Author.Tests.{eq-eqb, ne_eqb}
-use Rattle.mdf4.specs.Act.{choose, pure}
 use Rattle.walk_state.proofs.Steps.{yes, no, done}
 use Rattle.walker.proofs.ChannelSteps.{data_of}
 use Rattle.walker.proofs.channels.walk_channel_data.Goals as goal

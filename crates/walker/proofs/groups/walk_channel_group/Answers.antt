@@ -1,5 +1,5 @@
 -- `walk_channel_group` meets its contract: visited before, no room, or entered.
-use Rattle.std.proofs.Common.{refl, arith}
+use Rattle.std.proofs.Common.{arith}
 use Rattle.mdf4.specs.Act.{CG}
 use Rattle.mdf4.specs.Walk.{walk_channel_group}
 use Rattle.walk_state.proofs.Steps.{handed, once_halt, once_old, once_new}
