@@ -29,7 +29,8 @@ nonzero_count : (xs : List ℕ) (n : ℕ) → n ≤ length xs → count_by (λ x
 nonzero_count xs zero h = sym (nonzero_empty xs 0)
 nonzero_count xs (suc n) h =
     rw (take-suc xs n 0 (omega arith), sum_by-append (λ x. cond (not (eqb x 0)) 1 0) (take n xs) (get_or xs n 0 ∷ []))
-    (ap₂ (λ (a b : ℕ). a + b) (nonzero_count xs n (omega arith)) (nonzero_byte (not (eqb (get_or xs n 0) 0))) ∙ sym (nonzero_step xs 0 n (omega arith)))
+    (ap₂ (λ (a b : ℕ). a + b) (nonzero_count xs n (omega arith)) (nonzero_byte (not (eqb (get_or xs n 0) 0)))
+    ∙ sym (nonzero_step xs 0 n (omega arith)))
 
 pub nonzero_all : (xs : List ℕ) → count_by (λ x. not (eqb x 0)) xs ≡ nonzero xs (0, length xs)
 nonzero_all xs =
@@ -79,7 +80,8 @@ module _ {r t₀ t : List ℕ} {total at : ℕ} {ps : List Range} (s : Counting 
   unfolding sum
   total_most {len} {ws} rest h e =
       let z : sum (map (nonzero r) ps) + sum (map (nonzero r) (g ∷ rest)) ≡ sum (map (nonzero r) ws)
-      = sym (sum_append (map (nonzero r) ps) _) ∙ ap sum (sym (map_append (nonzero r) ps (g ∷ rest))) ∙ ap (λ (qs : List Range). sum (map (nonzero r) qs)) e in
+      = sym (sum_append (map (nonzero r) ps) _) ∙ ap sum (sym (map_append (nonzero r) ps (g ∷ rest)))
+      ∙ ap (λ (qs : List Range). sum (map (nonzero r) qs)) e in
       omega (arith, z, s.so_far.sum_is, sum_most r len 0 ws h.apart (ends h))
 
   pub count_room : {ws : List Range} (rest : List Range) → ps ++ g ∷ rest ≡ ws → length ws ≤ length t₀ → at < length t₀

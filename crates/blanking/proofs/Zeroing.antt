@@ -26,8 +26,8 @@ pub ends : {len : ℕ} {ws : List Range} → Inner len ws → All (λ g. g.1 ≤
 ends {len} {ws} h = ends_below len 0 ws h.apart h.below
 
 -- the next range of a sweep
-pub next_inner : {P : List Range → Type 0} {len : ℕ} {all left : List Range} {g : Range} {rest : List Range} → Inner len all → Going P all left → left ≡ g ∷ rest
-    → (g.0 ≤ g.1) × (g.1 ≤ len)
+pub next_inner : {P : List Range → Type 0} {len : ℕ} {all left : List Range} {g : Range} {rest : List Range} → Inner len all
+    → Going P all left → left ≡ g ∷ rest → (g.0 ≤ g.1) × (g.1 ≤ len)
 next_inner {len = len} {g = g} {rest} h s e =
     let a = apart_at 0 s.found g rest (rw (among s e) h.apart) in
     let b = all_at (λ q. q.1 ≤ len) s.found g rest (rw (among s e) (ends h)) in
@@ -35,10 +35,12 @@ next_inner {len = len} {g = g} {rest} h s e =
 
 zeroed_append : (ps qs : List Range) (i : ℕ) (xs : List ℕ) → zeroed (ps ++ qs) i xs ≡ zeroed qs i (zeroed ps i xs)
 zeroed_append [] qs i xs = ap (zeroed qs i) (sym (zeroed_none i xs))
-zeroed_append (p ∷ ps) qs i xs = zeroed_cons p (ps ++ qs) i xs ∙ zeroed_append ps qs i (zeroed (p ∷ []) i xs) ∙ ap (zeroed qs i) (sym (zeroed_cons p ps i xs))
+zeroed_append (p ∷ ps) qs i xs =
+    zeroed_cons p (ps ++ qs) i xs ∙ zeroed_append ps qs i (zeroed (p ∷ []) i xs) ∙ ap (zeroed qs i) (sym (zeroed_cons p ps i xs))
 
 -- one more
-pub zero_turn : {s s' : List ℕ} (r : List ℕ) (g : Range) (ps : List Range) → s ≡ zeroed ps 0 r → s' ≡ zeroed (g ∷ []) 0 s → s' ≡ zeroed (ps ++ g ∷ []) 0 r
+pub zero_turn : {s s' : List ℕ} (r : List ℕ) (g : Range) (ps : List Range) → s ≡ zeroed ps 0 r → s' ≡ zeroed (g ∷ []) 0 s
+    → s' ≡ zeroed (ps ++ g ∷ []) 0 r
 zero_turn r g ps e f = f ∙ ap (zeroed (g ∷ []) 0) e ∙ sym (zeroed_append ps (g ∷ []) 0 r)
 
 -- a part of the recording that became zeros

@@ -75,7 +75,8 @@ module _ (f : ℕ → Range) where
   ordered_tab lo i (suc n) a b c = (
     a i (omega arith) (omega arith),
     c i (omega arith) (omega arith),
-    ordered_tab (f i).0 (suc i) n (λ k p q. b i k (omega arith) (omega arith) (omega arith)) (λ k l p q s. b k l (omega arith) q (omega arith)) (λ k p q. c k (omega arith) (omega arith)),
+    ordered_tab (f i).0 (suc i) n (λ k p q. b i k (omega arith) (omega arith) (omega arith)) (λ k l p q s. b k l (omega arith) q (omega arith))
+        (λ k p q. c k (omega arith) (omega arith)),
   )
 
 both : (a b : Bool) → (a ≡ true → b ≡ true) → (b ≡ true → a ≡ true) → a ≡ b
@@ -100,7 +101,8 @@ module _ (n : ℕ) (t u : List ℕ) (s : Sorted 2 n t u) where
       go (more z) = absurd (omega (arith, p.out (p.from k) (omega arith), p.to_from k))
 
   pub sorted_inside : (j : ℕ) → inside j (ranges_in 2 n u) ≡ inside j (ranges_in 2 n t)
-  sorted_inside j = rw (ranges_are u n, ranges_are t n) (both _ _ (λ h. forth (in_tab (range_at u) j 0 n h)) (λ h. back (in_tab (range_at t) j 0 n h)))
+  sorted_inside j =
+      rw (ranges_are u n, ranges_are t n) (both _ _ (λ h. forth (in_tab (range_at u) j 0 n h)) (λ h. back (in_tab (range_at t) j 0 n h)))
     where
       forth : (k : ℕ) × (0 ≤ k) × (k < 0 + n) × (within j (range_at u k) ≡ true) → inside j (tab (range_at t) 0 n) ≡ true
       forth z =
@@ -116,7 +118,8 @@ module _ (n : ℕ) (t u : List ℕ) (s : Sorted 2 n t u) where
   pub sorted_all : (P : Range → Type 0) → All P (ranges_in 2 n t) → All P (ranges_in 2 n u)
   sorted_all P a =
       let b : All P (tab (range_at t) 0 n) = rw (ranges_are t n) at a in
-      rw (ranges_are u n) (all_tab (range_at u) P 0 n (λ k x y. rw (same_range k) (tab_all (range_at t) P 0 n b (p.to k) (omega arith) (omega (arith, p.inn k (omega arith))))))
+      let old : (k : ℕ) → k < n → P (range_at t (p.to k)) = λ k y. tab_all (range_at t) P 0 n b (p.to k) (omega arith) (omega (arith, p.inn k y)) in
+      rw (ranges_are u n) (all_tab (range_at u) P 0 n (λ k x y. rw (same_range k) (old k (omega arith))))
 
   pub sorted_ordered : All (λ q. q.0 < q.1) (ranges_in 2 n u) → Ordered 0 (ranges_in 2 n u)
   sorted_ordered a =

@@ -6,8 +6,6 @@ use Prim.Native.Nat.{ℕ, ◌+◌, ◌*◌, ◌%◌, ◌≤◌, max}
 use native.Mathlib.Omega.{arith}
 use lib.ListN.{length}
 use borrow.Author.Tests.{eq-eqb, ne_eqb}
-use Rattle.std.specs.Prelude.{Result, Ok, Err}
-use Rattle.std.specs.Result.{result_unwrap_or}
 use Rattle.mdf4.specs.Bytes.{bytes, num}
 use Rattle.mdf4.specs.Act as spec
 use Rattle.mdf4.specs.Kinds.{shape, read_len}
@@ -18,11 +16,9 @@ use Rattle.mdf4.proofs.Reading.{need_least, read_whole}
 use Rattle.mdf4.proofs.Good.{Readable}
 use Rattle.blocks.specs.declared.kind.Kind.{Kind}
 use Rattle.blocks.specs.declared.kind.Kind.TheVariants.{ID, HD, DG, CG, CN, SI, TX, MD, DT, SD, DL, UT, UD}
-use Rattle.blocks.specs.declared.kind.UnknownKind.{UnknownKind}
-use Rattle.blocks.specs.Kind.{kind_named, IsKindOf}
+use Rattle.blocks.specs.Kind.{kind_named}
 use Rattle.tables.specs.declared.BlockInfo.{BlockInfo}
-use Rattle.tables.specs.Rows.{kind_of, row_of}
-use Rattle.tables.proofs.Words.{by_number, kind_again}
+use Rattle.tables.specs.Rows.{row_of}
 
 pub read_least : (k : spec.Kind) (r : List ℕ) (a : ℕ) → 24 ≤ read_len k r a
 unfolding read_len
@@ -93,24 +89,10 @@ module _ (r : List ℕ) (a nr f : ℕ) (e : nr ≡ num r (a + 16) 8) (d : f ≡ 
       let z : a + (24 + 8 * nr) + 4 ≡ a + (28 + 8 * nr) = omega arith in
       sym (read_len_is r spec.DL a ∙ rw (← e, ← d, ne_eqb (f % 2) 1 q, y, z))
 
--- a row's kind, as the code reads it
-kind_found : (n : ℕ) (x : Result Kind UnknownKind) → IsKindOf n x → kind_named (result_unwrap_or x UD) ≡ kind_of n
-unfolding shape
-kind_found n (Ok k) e = rw (← e) (sym (kind_again (kind_named k)))
-kind_found n (Err u) e =
-    by_number (λ k. spec.UD ≡ k) n refl
-    (λ q. absurd (e.1 ID (sym q))) (λ q. absurd (e.1 HD (sym q))) (λ q. absurd (e.1 DG (sym q))) (λ q. absurd (e.1 CG (sym q)))
-    (λ q. absurd (e.1 CN (sym q))) (λ q. absurd (e.1 SI (sym q))) (λ q. absurd (e.1 TX (sym q))) (λ q. absurd (e.1 MD (sym q)))
-    (λ q. absurd (e.1 DT (sym q))) (λ q. absurd (e.1 SD (sym q))) (λ q. absurd (e.1 DL (sym q))) (λ q. absurd (e.1 UT (sym q)))
-
-module _ (r : List ℕ) (b : BlockInfo) (x : Result Kind UnknownKind) {k : Kind} (named : IsKindOf b.kind x) (is : k ≡ result_unwrap_or x UD) where
-  pub kind_is : kind_named k ≡ kind_of b.kind
-  kind_is = rw is (kind_found b.kind x named)
-
-  -- its own bytes lie inside the file
-  pub row_whole : Readable r (row_of b) → b.offset + read_len (kind_named k) r b.offset ≤ length r
-  unfolding row_of
-  row_whole q = rw kind_is (read_whole (kind_of b.kind) r b.offset _ q)
+-- a row's own bytes lie inside the file
+pub row_whole : (r : List ℕ) (b : BlockInfo) → Readable r (row_of b) → b.offset + read_len (kind_named b.kind) r b.offset ≤ length r
+unfolding row_of
+row_whole r b q = read_whole (kind_named b.kind) r b.offset _ q
 
 pub not_channel : (k : Kind) → (k ≡ CN → ⊥) → kinds.is (kind_named k) spec.CN ≡ false
 unfolding kinds.is shape

@@ -8,12 +8,13 @@ use lib.Dec.{leb}
 use lib.ListN.{length}
 use borrow.Author.Tests.{le-leb, lt-leb, eq-eqb, ne_eqb}
 use Rattle.mdf4.specs.Bytes.{little, num, words}
-use Rattle.mdf4.specs.Act.{Kind, CN, TX}
+use Rattle.mdf4.specs.Act.{CN, TX}
 use Rattle.mdf4.specs.Kinds.{shape, is, read_len, block_len, make_link, leads_to, name_link, name_is_text, name_head, name_len}
 use Rattle.mdf4.specs.Reads.{name_ranges, named_ranges, links_at, listed_len}
 use Rattle.mdf4.proofs.Fields.{num_bytes, read_len_is}
+use Rattle.blocks.specs.Kind.{kind_named}
 use Rattle.tables.specs.declared.BlockInfo.{BlockInfo}
-use Rattle.tables.specs.Rows.{kind_of, row_of}
+use Rattle.tables.specs.Rows.{row_of}
 use Rattle.scratch_rows.specs.Covers.{name_cover, cover, row_cover}
 
 module _ (r : List ℕ) (t : ℕ) where
@@ -37,7 +38,9 @@ module _ (r : List ℕ) (t : ℕ) where
     module _ (text : num r t 4 ≡ 0x58542323) where
       is_text : name_is_text (length r) (make_link r t) ≡ true
       unfolding name_is_text leads_to make_link shape little
-      is_text = rw (ne_eqb t 0 some, le-leb (t + 4) (length r) (omega arith), le-leb (t + 24) (length r) there, eq-eqb (1 + num r t 4) 0x58542324 (omega arith))
+      is_text =
+          let mark : 1 + num r t 4 ≡ 0x58542324 = omega arith in
+          rw (ne_eqb t 0 some, le-leb (t + 4) (length r) (omega arith), le-leb (t + 24) (length r) there, eq-eqb (1 + num r t 4) 0x58542324 mark)
 
       its_range : name_cover r t ≡ (t, t + cond (leb (t + max 24 (num r (t + 8) 8)) (length r)) (max 24 (num r (t + 8) 8)) 24) ∷ []
       unfolding name_cover name_ranges name_head name_len block_len make_link
@@ -56,11 +59,12 @@ third r a =
     let e : read_len CN r a ≡ 160 = read_len_is r CN a in
     rw (e, num_bytes r a 160 40 8 (omega arith))
 
-module _ (r : List ℕ) (b : BlockInfo) {k : Kind} {x e : ℕ} (kind : k ≡ kind_of b.kind) (read : x ≡ read_len k r b.offset) (behind : e ≡ max b.end_offset (b.offset + x)) where
-  pub cover_channel : {t : ℕ} → k ≡ CN → t ≡ num r (b.offset + 40) 8 → row_cover r (row_of b) ≡ (b.offset, e) ∷ name_cover r t
+module _ (r : List ℕ) (b : BlockInfo) {x e : ℕ} (read : x ≡ read_len (kind_named b.kind) r b.offset)
+    (behind : e ≡ max b.end_offset (b.offset + x)) where
+  pub cover_channel : {t : ℕ} → kind_named b.kind ≡ CN → t ≡ num r (b.offset + 40) 8 → row_cover r (row_of b) ≡ (b.offset, e) ∷ name_cover r t
   unfolding row_cover row_of cover named_ranges name_cover is shape
-  cover_channel c f = rw (f, behind, read, ← kind, c, third r b.offset)
+  cover_channel c f = rw (f, behind, read, c, third r b.offset)
 
-  pub cover_other : is k CN ≡ false → row_cover r (row_of b) ≡ (b.offset, e) ∷ []
+  pub cover_other : is (kind_named b.kind) CN ≡ false → row_cover r (row_of b) ≡ (b.offset, e) ∷ []
   unfolding row_cover row_of cover named_ranges
-  cover_other n = rw (behind, read, ← kind, n)
+  cover_other n = rw (behind, read, n)

@@ -18,8 +18,11 @@ unfoldable pub row_cover : List ℕ → Row → List Range
 row_cover r w = cover r w.off w.end w.kind
 
 -- the block at the offset t that a link leads to: its header, and the larger of header and extent
+unfoldable pub linked_end : List ℕ → ℕ → ℕ
+linked_end r t = max (t + 24) (min (t + block_len (bytes r t 24)) (length r))
+
 unfoldable pub block_cover : List ℕ → ℕ → List Range
-block_cover r t = (t, t + 24) ∷ (t, max (t + 24) (min (t + block_len (bytes r t 24)) (length r))) ∷ []
+block_cover r t = (t, t + 24) ∷ (t, linked_end r t) ∷ []
 
 -- a link: its block, or the four bytes at its target
 unfoldable pub linked_cover : List ℕ → Link → List Range

@@ -3,17 +3,15 @@
 // not, has one for the block's header and one for its extent instead (document 02, order 1). What these ranges leave is clear.
 #![tactic(auto)]
 
-ghost use Rattle.std.specs.Prelude.{◌≡◌, ℕ, ◌+◌, ◌*◌, ◌^◌, ◌≤◌, ◌<◌, length};
-ghost use Rattle.mdf4.specs.Bytes.{concat_map};
+ghost use Rattle.std.specs.Prelude.{◌≡◌, [], ℕ, ◌+◌, ◌^◌, ◌≤◌, ◌<◌, length, map, get_or};
 ghost use Rattle.mdf4.specs.Act as spec;
 ghost use Rattle.mdf4.specs.Kinds.{read_len, make_link};
 ghost use Rattle.mdf4.specs.Reads.{leads_to_block};
-ghost use Rattle.mdf4.specs.Answers.{block_row_words, pair_words};
 ghost use Rattle.mdf4.proofs.Good.{Readable};
 ghost use Rattle.blocks.specs.Kind.{kind_named};
-ghost use Rattle.tables.specs.Gaps.{Pushes};
-ghost use Rattle.tables.specs.Rows.{row_of, row_at, held_rows, held_links};
-ghost use Rattle.scratch_rows.specs.Covers.{name_cover, row_cover, block_cover, target_cover, link_cover};
+ghost use Rattle.tables.specs.Gaps.{Pushed, Pushes};
+ghost use Rattle.tables.specs.Rows.{row_of, row_of_words, link_of_words};
+ghost use Rattle.scratch_rows.specs.Covers.{name_cover, row_cover, linked_end, target_cover, covers};
 
 use blocks::channel_block::ChannelBlock;
 use blocks::channel_group_block::ChannelGroupBlock;
@@ -26,7 +24,7 @@ use blocks::kind::Kind;
 use blocks::source_block::SourceBlock;
 use blocks::text_block::TextBlock;
 use little_endian::{read_u8, read_u32, read_u64};
-use tables::{BlockInfo, PAIR_WORDS, RangeTable, first_rows};
+use tables::{BLOCK_ROW_WORDS, BlockInfo, PAIR_WORDS, RangeTable};
 
 // What every block's mark starts with, ##, as a little-endian number.
 const BLOCK_MARK: u32 = 0x2323;
@@ -91,27 +89,15 @@ fn put_name(file: &[u8], target: u64, scratch: &mut RangeTable<'_>)
 }
 
 // The ranges of a listed block: its extent and own bytes, and its name.
-fn put_block(file: &[u8], block: BlockInfo, scratch: &mut RangeTable<'_>)
-    requires { (scratch.old.count < 2 ^ 62) × Readable file.now (row_of block) }
-    ensures pushed { Pushes scratch.old (row_cover file.now (row_of block)) scratch.new }
+fn put_block(file: &[u8], block: &BlockInfo, scratch: &mut RangeTable<'_>)
+    requires { (scratch.old.count < 2 ^ 62) × Readable file.now (row_of block.now) }
+    ensures pushed { Pushes scratch.old (row_cover file.now (row_of block.now)) scratch.new }
     ensures count { scratch.new.count ≤ scratch.old.count + 2 }
 {
-    let kind = Kind::try_from(block.kind).unwrap_or(Kind::UD);
-    let behind = block.offset + read_len(file, block.offset, kind);
+    let behind = block.offset + read_len(file, block.offset, block.kind);
     scratch.push(block.offset..block.end_offset.max(behind));
-    if kind == Kind::CN {
+    if block.kind == Kind::CN {
         put_name(file, read_u64(file, block.offset as usize + 40), scratch);
-    }
-}
-
-// The ranges of the n listed blocks.
-pub fn put_blocks(file: &[u8], blocks: &[u64], n: usize, scratch: &mut RangeTable<'_>)
-    requires { (scratch.old.count < 2 ^ 61) × (n * block_row_words ≤ length blocks.now) × ((i : ℕ) → i < n → Readable file.now (row_at i blocks.now)) }
-    ensures pushed { Pushes scratch.old (concat_map (row_cover file.now) (held_rows n blocks.now)) scratch.new }
-    ensures count { scratch.new.count ≤ scratch.old.count + 2 * n }
-{
-    for i in 0..n {
-        put_block(file, BlockInfo::load(blocks, i), scratch);
     }
 }
 
@@ -124,21 +110,18 @@ fn leads_to_block(file: &[u8], target: u64) -> bool
         && read_u32(file, target as usize) % 65536 == BLOCK_MARK
 }
 
-// The header and the extent of the block at `target`. The extent is cut at the file's end, before the sum is made; its range takes in
+// The end of the block at `target` that a link leads to. The extent is cut at the file's end, before the sum is made; the range takes in
 // the header, so that it is never empty.
-fn put_linked_block(file: &[u8], target: u64, scratch: &mut RangeTable<'_>)
-    requires { (scratch.old.count < 2 ^ 62) × (target + 24 ≤ length file.now) }
-    ensures pushed { Pushes scratch.old (block_cover file.now target) scratch.new }
-    ensures count { scratch.new.count ≤ scratch.old.count + 2 }
+fn linked_end(file: &[u8], target: u64) -> u64
+    requires { target + 24 ≤ length file.now }
+    ensures { result ≡ linked_end file.now target }
 {
     let size = BlockHeader::LEN.max(read_u64(file, target as usize + 8));
-    let inside = size.min(file.len() as u64 - target);
-    scratch.push(target..target + BlockHeader::LEN);
-    scratch.push(target..target + inside);
+    target + size.min(file.len() as u64 - target)
 }
 
-// The ranges of a link that is not null: those of the block that it leads to, else the four bytes at the target, where they lie inside
-// the file.
+// The ranges of a link that is not null: header and extent of the block that it leads to, else the four bytes at the target, where
+// they lie inside the file.
 fn put_link(file: &[u8], target: u64, scratch: &mut RangeTable<'_>)
     requires { scratch.old.count < 2 ^ 62 }
     ensures pushed { Pushes scratch.old (target_cover file.now target) scratch.new }
@@ -149,19 +132,29 @@ fn put_link(file: &[u8], target: u64, scratch: &mut RangeTable<'_>)
         return;
     }
     if leads_to_block(file, target) {
-        put_linked_block(file, target, scratch);
+        scratch.push(target..target + BlockHeader::LEN);
+        scratch.push(target..linked_end(file, target));
     } else {
         scratch.push(target..target + 4);
     }
 }
 
-// The ranges of the m links.
-pub fn put_links(file: &[u8], links: &[u64], m: usize, scratch: &mut RangeTable<'_>)
-    requires { (scratch.old.count < 2 ^ 61) × (m * pair_words ≤ length links.now) }
-    ensures pushed { Pushes scratch.old (concat_map (link_cover file.now) (held_links m links.now)) scratch.new }
-    ensures count { scratch.new.count ≤ scratch.old.count + 2 * m }
+// The ranges of the listed blocks and of the links, as rows of the scratch table: how many there are. Those behind its end are left out.
+pub fn put_spared(
+    file: &[u8],
+    blocks: &[[u64; BLOCK_ROW_WORDS]],
+    links: &[[u64; PAIR_WORDS]],
+    scratch: &mut [u64],
+) -> usize
+    requires { (i : ℕ) → i < length blocks.now → Readable file.now (row_of_words (get_or blocks.now i [])) }
+    ensures { Pushed scratch.old 0 (covers file.now (map row_of_words blocks.now) (map link_of_words links.now)) scratch.new result }
 {
-    for link in first_rows::<PAIR_WORDS>(links, m) {
-        put_link(file, link[0], scratch);
+    let mut table = RangeTable::new(scratch);
+    for row in blocks {
+        put_block(file, &BlockInfo::load(row), &mut table);
     }
+    for &[target, _] in links {
+        put_link(file, target, &mut table);
+    }
+    table.count
 }

@@ -1,23 +1,22 @@
 // The listing of a layout that stands in the tables: the Rust's `to_text`.
 #![tactic(auto)]
 
-ghost use Rattle.std.specs.Prelude.{◌≡◌, ℕ, ◌+◌, ◌*◌, ◌≤◌, ◌<◌, length, map};
+ghost use Rattle.std.specs.Prelude.{[], ℕ, ◌<◌, length, map, get_or};
 ghost use Rattle.fmt.specs.Text.{Wrote, Writes};
 ghost use Rattle.mdf4.specs.Bytes.{concat_map};
 ghost use Rattle.mdf4.specs.Layout.{Layout};
-ghost use Rattle.mdf4.specs.Answers.{block_row_words, pair_words};
 ghost use Rattle.mdf4.specs.Listing.{head_lines, row_lines, gap_line, gap_lines, found_text, target_text, link_line, link_lines, block_links, to_text};
 ghost use Rattle.mdf4.proofs.Good.{Readable};
 ghost use Rattle.blocks.specs.Kind.{kind_named};
 ghost use Rattle.tables.specs.Gaps.{range_of};
 ghost use Rattle.tables.specs.Laid.{Shows, RowOk, Printable};
-ghost use Rattle.tables.specs.Rows.{row_of, row_at, held_rows, link_of_words};
+ghost use Rattle.tables.specs.Rows.{row_of, row_of_words, link_of_words};
 
 use blocks::kind::Kind;
 use describe::links::put_link_name_left;
-use describe::{put_description, put_extra, put_mark, put_mark_column, row_kind};
+use describe::{put_description, put_extra, put_mark, put_mark_column};
 use fmt::Page;
-use tables::{BlockInfo, PAIR_WORDS, first_rows};
+use tables::{BLOCK_ROW_WORDS, BlockInfo, PAIR_WORDS};
 
 fn put_head(page: &mut Page<'_>, len: u64, blocks: u64)
     ensures { Writes page.old (head_lines len blocks) page.new }
@@ -49,13 +48,12 @@ fn put_row(page: &mut Page<'_>, file: &[u8], block: &BlockInfo)
     put_extra(page, file, block);
 }
 
-fn put_rows(page: &mut Page<'_>, file: &[u8], blocks: &[u64], n: usize)
-    requires fits { n * block_row_words ≤ length blocks.now }
-    requires readable { (i : ℕ) → i < n → Readable file.now (row_at i blocks.now) }
-    ensures { Writes page.old (concat_map (row_lines file.now) (held_rows n blocks.now)) page.new }
+fn put_rows(page: &mut Page<'_>, file: &[u8], blocks: &[[u64; BLOCK_ROW_WORDS]])
+    requires { (i : ℕ) → i < length blocks.now → Readable file.now (row_of_words (get_or blocks.now i [])) }
+    ensures { Writes page.old (concat_map (row_lines file.now) (map row_of_words blocks.now)) page.new }
 {
-    for i in 0..n {
-        put_row(page, file, &BlockInfo::load(blocks, i));
+    for row in blocks {
+        put_row(page, file, &BlockInfo::load(row));
     }
 }
 
@@ -132,44 +130,40 @@ fn put_block_links(page: &mut Page<'_>, file: &[u8], block: &BlockInfo, links: &
     page.put_format(b" @ 0x$ (", &[block.offset]);
     put_description(page, file, block);
     page.put_bytes(b")\n");
-    put_links(page, row_kind(block.kind), &links[first..first + count]);
+    put_links(page, block.kind, &links[first..first + count]);
 }
 
 fn put_all_links(
     page: &mut Page<'_>,
     file: &[u8],
-    blocks: &[u64],
-    n: usize,
+    blocks: &[[u64; BLOCK_ROW_WORDS]],
     links: &[[u64; PAIR_WORDS]],
 )
-    requires fits { n * block_row_words ≤ length blocks.now }
-    requires ok { (i : ℕ) → i < n → RowOk file.now (length links.now) (row_at i blocks.now) }
-    ensures { Writes page.old (concat_map (block_links file.now (map link_of_words links.now)) (held_rows n blocks.now)) page.new }
+    requires { Printable file.now blocks.now links.now }
+    ensures { Writes page.old (concat_map (block_links file.now (map link_of_words links.now)) (map row_of_words blocks.now)) page.new }
 {
-    for i in 0..n {
-        put_block_links(page, file, &BlockInfo::load(blocks, i), links);
+    for row in blocks {
+        put_block_links(page, file, &BlockInfo::load(row), links);
     }
 }
 
-// The whole listing of n blocks, m links and k gaps.
+// The whole listing of the blocks, links and gaps. That the rows can be read again is asked here, of their links and of the clear ranges: a
+// struct of recording and rows would be made for each call.
 pub fn put_text(
     out: &mut [u8],
     file: &[u8],
-    blocks: &[u64],
-    n: usize,
-    links: &[u64],
-    m: usize,
-    gaps: &[u64],
-    k: usize,
+    blocks: &[[u64; BLOCK_ROW_WORDS]],
+    links: &[[u64; PAIR_WORDS]],
+    gaps: &[[u64; PAIR_WORDS]],
 ) -> usize
-    requires { Printable file.now n blocks.now m links.now × (k * pair_words ≤ length gaps.now) }
-    ensures { (y : Layout) → Shows y n blocks.now m links.now k gaps.now → Wrote out.old 0 (to_text file.now y) out.new result }
+    requires { Printable file.now blocks.now links.now }
+    ensures { (y : Layout) → Shows y blocks.now links.now gaps.now → Wrote out.old 0 (to_text file.now y) out.new result }
 {
     let mut page = Page::new(out);
-    put_head(&mut page, file.len() as u64, n as u64);
-    put_rows(&mut page, file, blocks, n);
-    put_gaps(&mut page, first_rows(gaps, k));
+    put_head(&mut page, file.len() as u64, blocks.len() as u64);
+    put_rows(&mut page, file, blocks);
+    put_gaps(&mut page, gaps);
     page.put_bytes(b"\nBlock links:\n");
-    put_all_links(&mut page, file, blocks, n, first_rows(links, m));
+    put_all_links(&mut page, file, blocks, links);
     page.at
 }

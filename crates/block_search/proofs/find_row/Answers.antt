@@ -8,4 +8,4 @@ pub returns : goal.returns
 returns c =
     let facts = c.binary_search_by_key.ensures in
     let by_offset = facts.position (λ row. get_or row 0 0) (answers_always _ _ _ (λ f a r g called. search rules)) in
-    rw c.ok.ensures.value (found c.args.n c.args.blocks.now c.args.offset _ c.first_rows-rows.ensures _ facts.bound by_offset)
+    rw c.ok.ensures.value (found c.args.blocks.now c.args.offset _ facts.bound by_offset)

@@ -4,7 +4,7 @@ use Rattle.clr.proofs.Writing.{write_none, write_turn}
 use Rattle.clr.proofs.put_ranges.Goals as goal
 
 pub loop-range-init : goal.loop-range-init
-loop-range-init c = going (rw c.into_iter-range-iterator.ensures.into_iter_gives c.sweep-range-items.ensures) (write_none _)
+loop-range-init c = going (rw c.into_iter-range-iterator.ensures.into_iter_gives c.new-range-items.ensures) (write_none _)
 
 pub loop-range-preserved : goal.loop-range-preserved
 loop-range-preserved c =

@@ -13,7 +13,8 @@ returns c =
     elim c.if-read_u8-eq1.branch [
       | then-read_u8-eq1 w ↦ rw w.words-is (list_one a.file.now a.offset _ _ c.read_u64-links_nr.ensures c.read_u8.ensures w.if-read_u8-eq1.true)
       | else-read_u8-eq1 w ↦
-          rw w.words-is (list_many a.file.now a.offset _ _ c.read_u64-links_nr.ensures c.read_u8.ensures w.if-read_u8-eq1.false (w.from-words.ensures ∙ w.read_u32.ensures))
+          let words = w.from-words.ensures ∙ w.read_u32.ensures in
+          rw w.words-is (list_many a.file.now a.offset _ _ c.read_u64-links_nr.ensures c.read_u8.ensures w.if-read_u8-eq1.false words)
     ]
 
 pub overflow_add-result-2 : goal.overflow_add-result-2

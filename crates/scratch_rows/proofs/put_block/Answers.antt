@@ -5,25 +5,22 @@ use Rattle.blocks.specs.contracts.kind.Kind.{the_type}
 use Rattle.blocks.specs.declared.kind.Kind.TheVariants.{CN}
 use Rattle.blocks.specs.Kind.{kind_named}
 use Rattle.tables.proofs.Gapping.{pushes_then}
-use Rattle.scratch_rows.proofs.Lengths.{len_cn, kind_is, row_whole, not_channel}
+use Rattle.scratch_rows.proofs.Lengths.{len_cn, row_whole, not_channel}
 use Rattle.scratch_rows.proofs.NameCovers.{cover_channel, cover_other}
 use Rattle.scratch_rows.proofs.put_block.Goals as goal
 
 pub read_len-requires : goal.read_len-requires
-read_len-requires c = row_whole c.args.file.now c.args.block c.try_from.result c.try_from.ensures c.unwrap_or-kind.ensures c.requires.1
+read_len-requires c = row_whole c.args.file.now c.args.block.now c.requires.1
 
 pub overflow_add-behind : goal.overflow_add-behind
-overflow_add-behind c =
-    let w = row_whole c.args.file.now c.args.block c.try_from.result c.try_from.ensures c.unwrap_or-kind.ensures c.requires.1 in
-    omega (arith, c.read_len.ensures)
+overflow_add-behind c = omega (arith, c.read_len.ensures, row_whole c.args.file.now c.args.block.now c.requires.1)
 
 pub read_u64-requires : goal.read_u64-requires
 read_u64-requires c =
     let a = c.args in
-    let w = row_whole a.file.now a.block c.try_from.result c.try_from.ensures c.unwrap_or-kind.ensures c.requires.1 in
-    let e : c.unwrap_or-kind.result ≡ CN = same_true the_type (search rules) _ _ (sym c.if-eq.ensures) in
-    let v = rw e at w in
-    omega (arith, len_cn a.file.now a.block.offset)
+    let e : a.block.now.kind ≡ CN = same_true the_type (search rules) _ _ (sym c.if-eq.ensures) in
+    let w = rw e at (row_whole a.file.now a.block.now c.requires.1) in
+    omega (arith, len_cn a.file.now a.block.now.offset)
 
 pub overflow_add-block : goal.overflow_add-block
 overflow_add-block c = let e = read_u64-requires c in omega arith
@@ -31,14 +28,12 @@ overflow_add-block c = let e = read_u64-requires c in omega arith
 pub returns-then-eq-clause-pushed : goal.returns-then-eq-clause-pushed
 returns-then-eq-clause-pushed c =
     let a = c.args in
-    let k = kind_is a.file.now a.block c.try_from.result c.try_from.ensures c.unwrap_or-kind.ensures in
-    let e : c.unwrap_or-kind.result ≡ CN = same_true the_type (search rules) _ _ (sym c.if-eq.ensures) in
-    rw (cover_channel a.file.now a.block k c.read_len.ensures c.max.ensures (ap kind_named e) c.read_u64.ensures)
+    let e : a.block.now.kind ≡ CN = same_true the_type (search rules) _ _ (sym c.if-eq.ensures) in
+    rw (cover_channel a.file.now a.block.now c.read_len.ensures c.max.ensures (ap kind_named e) c.read_u64.ensures)
     (pushes_then c.push.ensures.pushed c.put_name.ensures.pushed)
 
 pub returns-else-eq-clause-pushed : goal.returns-else-eq-clause-pushed
 returns-else-eq-clause-pushed c =
     let a = c.args in
-    let k = kind_is a.file.now a.block c.try_from.result c.try_from.ensures c.unwrap_or-kind.ensures in
-    let n = not_channel c.unwrap_or-kind.result (λ e. let z = rw e at c.if-eq.ensures in cc) in
-    rw (cover_other a.file.now a.block k c.read_len.ensures c.max.ensures n) c.push.ensures.pushed
+    let n = not_channel a.block.now.kind (λ e. let z = rw e at c.if-eq.ensures in cc) in
+    rw (cover_other a.file.now a.block.now c.read_len.ensures c.max.ensures n) c.push.ensures.pushed

@@ -29,6 +29,7 @@ unfolding block_links links_of row_of
 returns c =
     let block = c.args.block.now in
     let count : block.first_link + block.link_count - block.first_link ≡ block.link_count = omega arith in
+    let place = writes_then (writes_then c.put_bytes.ensures c.put_mark.ensures) c.put_format.ensures in
+    let head = writes_then (writes_then place c.put_description.ensures) c.put_bytes-2.ensures in
     rw (ne_eqb block.link_count 0 c.if-count-eq0.false, drop-map link_of_words block.first_link c.args.links.now, take-map)
-    (writes_then (writes_then (writes_then (writes_then (writes_then c.put_bytes.ensures c.put_mark.ensures) c.put_format.ensures) c.put_description.ensures) c.put_bytes-2.ensures)
-    (rw (c.row_kind.ensures, count) at c.put_links.ensures))
+    (writes_then head (rw count at c.put_links.ensures))

@@ -4,18 +4,20 @@ use Rattle.std.proofs.Math.Seq.{take_all}
 use Rattle.std.proofs.lemmas.Bool.Decides.{nat_tests}
 use Rattle.fmt.proofs.Text.{writes_none, writes_then}
 use Rattle.mdf4.specs.Listing.{gap_line}
-use Rattle.to_text.proofs.Lines.{gaps_none, gaps_start, gap_turn, headed}
+use Rattle.to_text.proofs.Lines.{start, turn, gaps_none, headed}
 use Rattle.to_text.proofs.put_gaps.Goals as goal
 
 pub returns-then-is_empty : goal.returns-then-is_empty
 returns-then-is_empty c = let none : length c.args.gaps.now ≡ 0 = grind (arith, nat_tests) in rw (← (gaps_none c.args.gaps.now none)) (writes_none _)
 
 pub loop-start-init : goal.loop-start-init
-loop-start-init c = gaps_start _
+loop-start-init c = start _ _
 
 pub loop-start-preserved : goal.loop-start-preserved
 unfolding gap_line
-loop-start-preserved c = gap_turn c.args.gaps.now c.loop-start.start-index _ c.loop-start-test.true c.loop-start.invariant (rw c.saturating_sub.ensures at c.put_format.ensures)
+loop-start-preserved c =
+    let line = rw c.saturating_sub.ensures at c.put_format.ensures in
+    turn _ _ c.args.gaps.now c.loop-start.start-index _ c.loop-start-test.true c.loop-start.invariant line
 
 pub returns : goal.returns
 returns c =

@@ -7,4 +7,5 @@ use Rattle.to_text.proofs.put_row.Goals as goal
 pub returns : goal.returns
 unfolding row_lines row_of
 returns c =
-    writes_then (writes_then (writes_then (writes_then (writes_then c.put_format.ensures c.put_mark_column.ensures) c.put_bytes.ensures) c.put_description.ensures) c.put_bytes-2.ensures) c.put_extra.ensures
+    let columns = writes_then (writes_then c.put_format.ensures c.put_mark_column.ensures) c.put_bytes.ensures in
+    writes_then (writes_then (writes_then columns c.put_description.ensures) c.put_bytes-2.ensures) c.put_extra.ensures
