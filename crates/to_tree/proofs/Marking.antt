@@ -5,6 +5,7 @@ use mathlib.Core.List.{List, [], ◌∷◌, ◌++◌, append_assoc}
 use Prim.Native.Nat.{ℕ, zero, suc, ◌+◌, ◌*◌, ◌<◌}
 use native.Mathlib.Omega.{arith}
 use lib.ListN.{length, get_or, take, drop, set}
+use Rattle.std.proofs.Common.{map}
 use lib.Seq.{get_or-set_other}
 use borrow.Author.Tests.{eq-eqb, ne_eqb}
 use Rattle.mdf4.specs.Bytes.{bit, concat_map}
@@ -13,9 +14,10 @@ use Rattle.mdf4.specs.Answers.{row_words, block_row_words}
 use Rattle.mdf4.specs.Layout.{Layout}
 use Rattle.mdf4.proofs.Order.{Above, Rising}
 use Rattle.tables.specs.Rows.{row_of_words, held_rows, row_at}
-use Rattle.tables.specs.Laid.{Printable}
-use Rattle.tables.proofs.Words.{row_word, rows_at, rows_back}
+use Rattle.tables.proofs.Words.{row_word, rows_at, rows_back, table_at}
+use Rattle.tables.proofs.Chunks.{held_rows_are}
 use Rattle.block_search.proofs.Searching.{rising_less}
+use Rattle.to_tree.specs.Ready.{rows_of}
 use Rattle.to_tree.specs.Printing.{Holds}
 
 -- the word of row i that is its mark
@@ -23,23 +25,29 @@ abbrev pub mark_at : ℕ → ℕ
 mark_at i = i * block_row_words + 11
 
 -- rows do not show their marks
-row_kept : (b b' : List ℕ) (j : ℕ) → ((k : ℕ) → k < 11 → get_or b' (j * block_row_words + k) 0 ≡ get_or b (j * block_row_words + k) 0) → row_at j b' ≡ row_at j b
+row_kept : (b b' : List ℕ) (j : ℕ) → ((k : ℕ) → k < 11 → get_or b' (j * block_row_words + k) 0 ≡ get_or b (j * block_row_words + k) 0)
+    → row_at j b' ≡ row_at j b
 unfolding row_at row_of_words
 row_kept b b' j h =
-    let at : (k : ℕ) → k < 11 → get_or (take block_row_words (drop (j * block_row_words) b')) k 0 ≡ get_or (take block_row_words (drop (j * block_row_words) b)) k 0
-    = λ k l. row_word block_row_words j k b' (omega arith) ∙ h k l ∙ sym (row_word block_row_words j k b (omega arith)) in
-    rw (at 0 (omega arith), at 1 (omega arith), at 2 (omega arith), at 3 (omega arith), at 4 (omega arith), at 5 (omega arith), at 6 (omega arith), at 7 (omega arith), at 8 (omega arith), at 9 (omega arith), at 10 (omega arith))
+    let word : List ℕ → ℕ → ℕ = λ t k. get_or (take block_row_words (drop (j * block_row_words) t)) k 0 in
+    let at : (k : ℕ) → k < 11 → word b' k ≡ word b k =
+    λ k l. row_word block_row_words j k b' (omega arith) ∙ h k l ∙ sym (row_word block_row_words j k b (omega arith)) in
+    rw (
+      at 0 (omega arith),
+      at 1 (omega arith),
+      at 2 (omega arith),
+      at 3 (omega arith),
+      at 4 (omega arith),
+      at 5 (omega arith),
+      at 6 (omega arith),
+      at 7 (omega arith),
+      at 8 (omega arith),
+      at 9 (omega arith),
+      at 10 (omega arith),
+    )
 
 pub mark_kept : (b : List ℕ) (i j : ℕ) → row_at j (set b (mark_at i) 1) ≡ row_at j b
 mark_kept b i j = row_kept b (set b (mark_at i) 1) j (λ k h. get_or-set_other b (mark_at i) (j * block_row_words + k) 1 0 (λ e. omega arith))
-
--- the tables still hold blocks of the recording
-pub printable_as : (r : List ℕ) (n : ℕ) (b b' : List ℕ) (m : ℕ) (l : List ℕ) → length b' ≡ length b → ((i : ℕ) → row_at i b' ≡ row_at i b) → Printable r n b m l → Printable r n b' m l
-printable_as r n b b' m l e s p = record {
-  rows_fit = omega (arith, p.rows_fit);
-  links_fit = p.links_fit;
-  row = λ i h. rw (s i) (p.row i h);
-}
 
 pub bit_true : (x : Bool) → (bit x ≡ 0 → ⊥) → x ≡ true
 unfolding bit
@@ -52,7 +60,8 @@ bit_false true h = absurd (omega arith)
 bit_false false h = refl
 
 -- the mark of a row
-marked : (v : List ℕ) (ws : List Row) (z : List ℕ) (i : ℕ) (d : Row) → i < length ws → get_or (concat_map (row_words v) ws ++ z) (mark_at i) 0 ≡ bit (elem (get_or ws i d).off v)
+marked : (v : List ℕ) (ws : List Row) (z : List ℕ) (i : ℕ) (d : Row) → i < length ws → get_or (concat_map (row_words v) ws ++ z)
+    (mark_at i) 0 ≡ bit (elem (get_or ws i d).off v)
 unfolding concat_map row_words
 marked v [] z i d h = absurd (omega arith)
 marked v (w ∷ ws) z zero d h = refl
@@ -85,17 +94,35 @@ marked_set : (v : List ℕ) (ws : List Row) (z : List ℕ) (i : ℕ) (d : Row) �
 unfolding concat_map
 marked_set v [] z i d r h = absurd (omega arith)
 marked_set v (w ∷ ws) z zero d r h =
-    rw (rows_apart w.off v ws r.0, append_assoc (row_words v w) (concat_map (row_words v) ws) z, append_assoc (row_words (w.off ∷ v) w) (concat_map (row_words v) ws) z)
+    rw (
+      rows_apart w.off v ws r.0,
+      append_assoc (row_words v w) (concat_map (row_words v) ws) z,
+      append_assoc (row_words (w.off ∷ v) w)
+          (concat_map (row_words v) ws) z,
+    )
     (row_marked v w (concat_map (row_words v) ws ++ z))
 marked_set v (w ∷ ws) z (suc i) d r h =
     let l : w.off < (get_or ws i d).off = rising_less (w ∷ ws) 0 (suc i) d r (omega arith) h in
-    rw (row_apart (get_or ws i d).off v w (λ e. omega arith), append_assoc (row_words v w) (concat_map (row_words v) ws) z, append_assoc (row_words v w) (concat_map (row_words ((get_or ws i d).off ∷ v)) ws) z)
+    rw (
+      row_apart (get_or ws i d).off v w (λ e. omega arith),
+      append_assoc (row_words v w)
+          (concat_map (row_words v) ws) z,
+      append_assoc (row_words v w) (concat_map (row_words ((get_or ws i d).off ∷ v)) ws) z,
+    )
     (row_passed v w (concat_map (row_words v) ws ++ z) i ∙ ap (λ (t : List ℕ). row_words v w ++ t) (marked_set v ws z i d r.1 (omega arith)))
 
+-- a row of the arrays
+pub row_shown : (n : ℕ) (b : List ℕ) (i : ℕ) (d : List ℕ) → i < n → row_of_words (get_or (rows_of n b) i d) ≡ row_at i b
+unfolding row_at
+row_shown n b i d h = ap row_of_words (table_at block_row_words (λ row. row) n i b d h)
+
 -- what the tables hold
-module _ {n : ℕ} {b : List ℕ} {m : ℕ} {l : List ℕ} {y : Layout} {z v : List ℕ} (h : Holds n b m l y z v) where
+module _ {n : ℕ} {b : List ℕ} {l : List (List ℕ)} {y : Layout} {z v : List ℕ} (h : Holds n b l y z v) where
   pub rows_held : y.blocks ≡ held_rows n b
   rows_held = rw (h.count, h.rows) (sym (rows_back v y.blocks z))
+
+  pub rows_shown : y.blocks ≡ map row_of_words (rows_of n b)
+  rows_shown = rows_held ∙ sym (held_rows_are n b)
 
   pub row_held : (i : ℕ) (d : Row) → i < n → get_or y.blocks i d ≡ row_at i b
   row_held i d k = rw rows_held (rows_at n i b d k)
@@ -105,7 +132,7 @@ module _ {n : ℕ} {b : List ℕ} {m : ℕ} {l : List ℕ} {y : Layout} {z v : L
       let e = marked v y.blocks z i (row_at i b) (omega (arith, h.count)) in
       ap (λ (t : List ℕ). get_or t (mark_at i) 0) h.rows ∙ e ∙ ap (λ (w : Row). bit (elem w.off v)) (row_held i (row_at i b) k)
 
-  pub holds_marked : (i : ℕ) → i < n → Holds n (set b (mark_at i) 1) m l y z ((row_at i b).off ∷ v)
+  pub holds_marked : (i : ℕ) → i < n → Holds n (set b (mark_at i) 1) l y z ((row_at i b).off ∷ v)
   holds_marked i k = record {
     rows = ap (λ (t : List ℕ). set t (mark_at i) 1) h.rows
         ∙ marked_set v y.blocks z i (row_at i b) h.rising (omega (arith, h.count))

@@ -1,105 +1,122 @@
 -- Laws of a node that is opened: refused, done with its line, or with links to follow. Assumes nothing.
-use mathlib.Core.Path.{◌≡◌, refl, sym, ap, ◌∙◌}
-use mathlib.Core.Bool.{true, false}
-use mathlib.Core.List.{List, ◌∷◌}
-use Prim.Native.Nat.{ℕ, suc, ◌+◌, ◌*◌, ◌-◌, ◌≤◌, ◌<◌}
-use native.Mathlib.Omega.{arith}
-use lib.ListN.{length, get_or, take, set}
-use Rattle.fmt.specs.Text.{page, Wrote}
+use Rattle.std.proofs.Common.{◌≡◌, refl, sym, ap, ◌∙◌, ℕ, suc, ◌+◌, ◌*◌, ◌-◌, ◌≤◌, ◌<◌, Bool, true}
+use Rattle.std.proofs.Common.{false, List, [], ◌∷◌, Option, Some, None, Ok, Err, length, get_or, take, set, length-set, arith}
+use Rattle.std.specs.Option.{IfNone}
+use Rattle.fmt.specs.Text.{page, Writes}
+use Rattle.fmt.specs.declared.Page.{Page}
 use Rattle.mdf4.specs.Act.{Out, Row, elem}
 use Rattle.mdf4.specs.Answers.{block_row_words}
 use Rattle.mdf4.specs.Layout.{Layout}
-use Rattle.mdf4.specs.Listing.{links_of}
-use Rattle.mdf4.specs.Tree.{children, node_line, render_tree_node, max_levels}
+use Rattle.mdf4.specs.Tree.{node_line, render_tree_node, max_levels}
 use Rattle.mdf4.proofs.TreeCode.{Shown, shown, shown_deep, shown_again, shown_new}
 use Rattle.blocks.specs.declared.error.MdfError.TheVariants.{TooDeep}
-use Rattle.tables.specs.Rows.{row_at}
+use Rattle.mdf4.proofs.Good.{Readable}
+use Rattle.tables.specs.Rows.{row_at, row_of, row_of_words}
 use Rattle.tables.specs.Laid.{Printable}
-use Rattle.tables.proofs.Words.{row_is}
+use Rattle.tables.proofs.Tables.{table_length}
+use Rattle.tables.specs.declared.BlockInfo.{BlockInfo}
+use Rattle.to_tree.specs.Ready.{Ready, rows_of}
 use Rattle.to_tree.specs.Search.{children_from}
-use Rattle.to_tree.specs.Lines.{flags, edge_of}
-use Rattle.to_tree.specs.Printing.{Holds, Went, Into, below, Opens}
-use Rattle.to_tree.specs.declared.Opened.TheVariants.{Below, Done, Refused}
-use Rattle.to_tree.proofs.Lines.{bars_below}
-use Rattle.to_tree.proofs.Marking.{mark_at, mark_kept, bit_true, bit_false, mark_held, holds_marked}
+use Rattle.to_tree.specs.Lines.{edge_of}
+use Rattle.to_tree.specs.Printing.{Holds, Went, Into, below, Opening}
+use Rattle.to_tree.specs.declared.line.Edge.{Edge}
+use Rattle.to_tree.proofs.Lines.{bars_below, edge_cut}
+use Rattle.to_tree.proofs.Marking.{mark_at, mark_kept, bit_true, bit_false, row_shown, mark_held, holds_marked}
+
+abbrev pub pg : Page → Rattle.fmt.specs.Text.Page
+pg p = page p.out.now p.at
 
 -- what a node prints, at the row i of the table b
-abbrev pub node : List ℕ → List ℕ → List ℕ → ℕ → List ℕ → ℕ → ℕ → ℕ → ℕ → Layout → List ℕ → Out Shown
-node r b out at bars i kind place levels y v =
-    shown (page out at) (render_tree_node r y levels (edge_of bars (max_levels - levels) kind place) (row_at i b) v)
+abbrev pub node : List ℕ → List ℕ → Page → List Bool → ℕ → Option Edge → ℕ → Layout → List ℕ → Out Shown
+node r b p bars i link levels y v = shown (pg p) (render_tree_node r y levels (edge_of bars (max_levels - levels) link) (row_at i b) v)
 
--- a row's links, by its words
-links_below : (y : Layout) (w : Row) (first count : ℕ) → w.first_link ≡ first → w.link_count ≡ count
-    → children 0 (links_of y.state.links w) y.blocks ≡ children_from first (first + count) first y.state.links y.blocks
-unfolding links_of children_from
-links_below y w first count e f =
-    let a : first - first ≡ 0 = omega arith in
-    let b : first + count - first ≡ count = omega arith in
-    rw (e, f, a, b)
+-- the block that was loaded
+pub block_is : (n : ℕ) (b : List ℕ) (rows : List (List ℕ)) (i : ℕ) (d : List ℕ) (block : BlockInfo) → rows ≡ rows_of n b → i < n
+    → row_of block ≡ row_of_words (get_or rows i d) → row_of block ≡ row_at i b
+block_is n b rows i d block e h q = q ∙ ap (λ (ws : List (List ℕ)). row_of_words (get_or ws i d)) e ∙ row_shown n b i d h
 
--- the links of a row stand in the link table
-pub links_fit : (r : List ℕ) (n : ℕ) (b : List ℕ) (m : ℕ) (l : List ℕ) (i : ℕ) → Printable r n b m l → i < n
-    → get_or b (i * block_row_words + 6) 0 + get_or b (i * block_row_words + 7) 0 ≤ m
-links_fit r n b m l i p h = omega (arith, (p.row i h).links, (row_is b i).first_link, (row_is b i).link_count)
+pub row_inside : (n : ℕ) (b : List ℕ) (rows : List (List ℕ)) (i : ℕ) → rows ≡ rows_of n b → i < n → i < length rows
+row_inside n b rows i e h = rw (e, table_length 12 (λ row. row) n b) h
 
-module _ (r : List ℕ) (n : ℕ) (b : List ℕ) (m : ℕ) (l bars : List ℕ) (out : List ℕ) (at i kind place : ℕ) (h : i < n) where
-  pub open_deep : (levels : ℕ) → levels ≡ 0
-      → Opens r n b m l levels (flags (take (max_levels - levels) bars)) (Refused (TooDeep (get_or b (i * block_row_words) 0) 4096)) out b (node r b out at bars i kind place levels)
-  open_deep levels e = record {
-    told = λ y z v q. record { is = rw (e, shown_deep r y (page out at) (edge_of bars (max_levels - 0) kind place) (row_at i b) v, (row_is b i).off) };
-    same = λ j. refl;
-    inside = λ a k f g p. let x : ◌≡◌ {A = ℕ} 0 1 = cc in absurd (omega arith);
+pub ready_of : {r : List ℕ} {l : List (List ℕ)} (n : ℕ) (b : List ℕ) → n * block_row_words ≤ length b → Printable r (rows_of n b) l → Ready r l n b
+ready_of n b h p = record {
+  rows_fit = h;
+  row = λ i k. rw (row_shown n b i [] k) at (p.row i (rw (table_length 12 (λ row. row) n b) k));
+}
+
+-- of rows that are ready
+module _ {r : List ℕ} {l : List (List ℕ)} {n : ℕ} {b : List ℕ} (p : Ready r l n b) (i : ℕ) where
+  pub ready_marked : Ready r l n (set b (mark_at i) 1)
+  ready_marked = record {
+    rows_fit = omega (arith, p.rows_fit, length-set b (mark_at i) 1);
+    row = λ j h. rw (mark_kept b i j) (p.row j h);
   }
 
-  module _ (levels : ℕ) (k : levels ≡ 0 → ⊥) (out' : List ℕ) (a : ℕ) where
+  pub block_reads : (block : BlockInfo) → i < n → row_of block ≡ row_at i b → Readable r (row_of block)
+  block_reads block h e = rw e ((p.row i h).readable)
+
+  pub links_fit : (block : BlockInfo) → i < n → row_of block ≡ row_at i b → block.first_link + block.link_count ≤ length l
+  unfolding row_of
+  links_fit block h e = rw (← e) at ((p.row i h).links)
+
+-- the line that was written, by all bars and by the row of the table
+pub line_of : (r : List ℕ) {p q : Page} (bars : List Bool) (depth : ℕ) (link : Option Edge) (block : BlockInfo) (w : Row) (t t' : Bool)
+    → depth ≤ length bars → row_of block ≡ w → t ≡ t'
+    → Writes p (node_line r (edge_of (take depth bars) (length (take depth bars)) link) (row_of block) t) q
+    → Writes p (node_line r (edge_of bars depth link) w t') q
+line_of r bars depth link block w t t' h e f x = rw (← e, ← f, ← (edge_cut bars depth link h)) x
+
+module _ (r : List ℕ) (n : ℕ) (b : List ℕ) (l : List (List ℕ)) (bars : List Bool) (p : Page) (i : ℕ) (link : Option Edge) (h : i < n)
+    (block : BlockInfo) (is : row_of block ≡ row_at i b) where
+  pub open_deep : (levels : ℕ) → levels ≡ 0
+      → Opening r n b l levels (take (max_levels - levels) bars) (Err (TooDeep block.offset 4096)) p b (node r b p bars i link levels)
+  unfolding row_of
+  open_deep levels e = record {
+    told = λ y z v q. record { is = rw (e, shown_deep r y (pg p) (edge_of bars (max_levels - 0) link) (row_at i b) v, ← is) };
+    same = λ j. refl;
+    inside = tt;
+  }
+
+  module _ (levels : ℕ) (k : levels ≡ 0 → ⊥) (q : Page) where
     suc_levels : levels ≡ suc (levels - 1)
     suc_levels = omega arith
 
     deeper : (y : Layout) (v : List ℕ)
-        → node r b out at bars i kind place levels y v ≡ shown (page out at) (render_tree_node r y (suc (levels - 1)) (edge_of bars (max_levels - levels) kind place) (row_at i b) v)
-    deeper y v = ap (λ (j : ℕ). shown (page out at) (render_tree_node r y j (edge_of bars (max_levels - levels) kind place) (row_at i b) v)) suc_levels
+        → node r b p bars i link levels y v
+        ≡ shown (pg p) (render_tree_node r y (suc (levels - 1)) (edge_of bars (max_levels - levels) link) (row_at i b) v)
+    deeper y v = ap (λ (j : ℕ). shown (pg p) (render_tree_node r y j (edge_of bars (max_levels - levels) link) (row_at i b) v)) suc_levels
 
-    pub open_done : (get_or b (mark_at i) 0 ≡ 0 → ⊥) → Wrote out at (node_line r (edge_of bars (max_levels - levels) kind place) (row_at i b) true) out' a
-        → Opens r n b m l levels (flags (take (max_levels - levels) bars)) (Done a) out' b (node r b out at bars i kind place levels)
-    open_done c w = record { told = told; same = λ j. refl; inside = λ a k f g p. let x : ◌≡◌ {A = ℕ} 0 1 = cc in absurd (omega arith) }
+    pub open_done : (get_or b (mark_at i) 0 ≡ 0 → ⊥) → Writes p (node_line r (edge_of bars (max_levels - levels) link) (row_at i b) true) q
+        → Opening r n b l levels (take (max_levels - levels) bars) (Ok None) q b (node r b p bars i link levels)
+    open_done c w = record { told = told; same = λ j. refl; inside = tt }
       where
-        told : (y : Layout) (z v : List ℕ) → Holds n b m l y z v → Went a out' b y z (node r b out at bars i kind place levels y v)
-        told y z v q =
-            let e : elem (row_at i b).off v ≡ true = bit_true (elem (row_at i b).off v) (λ x. c (mark_held q i h ∙ x)) in
+        told : (y : Layout) (z v : List ℕ) → Holds n b l y z v → Went q b y z (node r b p bars i link levels y v)
+        told y z v x =
+            let e : elem (row_at i b).off v ≡ true = bit_true (elem (row_at i b).off v) (λ u. c (mark_held x i h ∙ u)) in
             record {
               printed = v;
-              is = deeper y v ∙ shown_again r y (page out at) (edge_of bars (max_levels - levels) kind place) (row_at i b) v (levels - 1) e ∙ rw w.is;
-              rows = q.rows;
+              is = deeper y v ∙ shown_again r y (pg p) (edge_of bars (max_levels - levels) link) (row_at i b) v (levels - 1) e ∙ rw w.wrote.is;
+              rows = x.rows;
             }
 
-    module _ (p : Printable r n b m l) (long : length bars ≡ max_levels) (c : get_or b (mark_at i) 0 ≡ 0) where
-      abbrev first : ℕ
-      first = get_or b (i * block_row_words + 6) 0
+    module _ (root : IfNone link (levels ≡ max_levels)) (fits : block.first_link + block.link_count ≤ length l) (long : length bars ≡ max_levels)
+        (c : get_or b (mark_at i) 0 ≡ 0) where
+      no_depth : (e : Option Edge) → IfNone e (levels ≡ max_levels) → IfNone e (max_levels - levels ≡ 0)
+      no_depth (Some e) x = tt
+      no_depth None x = omega arith
 
-      abbrev count : ℕ
-      count = get_or b (i * block_row_words + 7) 0
-
-      abbrev own : ℕ
-      own = get_or b (i * block_row_words + 4) 0
-
-      pub open_below : Wrote out at (node_line r (edge_of bars (max_levels - levels) kind place) (row_at i b) false) out' a
-          → Opens r n b m l levels (flags (take (max_levels - levels) bars)) (Below a own first (first + count)) out' (set b (mark_at i) 1) (node r b out at bars i kind place levels)
-      unfolding below
-      open_below w = record { told = told; same = λ j. mark_kept b i j; inside = inside }
+      pub open_below : Writes p (node_line r (edge_of bars (max_levels - levels) link) (row_at i b) false) q
+          → Opening r n b l levels (take (max_levels - levels) bars) (Ok (Some block)) q (set b (mark_at i) 1) (node r b p bars i link levels)
+      unfolding below children_from
+      open_below w = record { told = told; same = λ j. mark_kept b i j; inside = (fits, omega (arith, suc_levels)) }
         where
-          told : (y : Layout) (z v : List ℕ) → Holds n b m l y z v
-              → Into r n m l levels (flags (take (max_levels - levels) bars)) a own first (first + count) out' (set b (mark_at i) 1) y z (node r b out at bars i kind place levels y v)
-          told y z v q =
-              let e : elem (row_at i b).off v ≡ false = bit_false (elem (row_at i b).off v) (sym (mark_held q i h) ∙ c) in
+          told : (y : Layout) (z v : List ℕ) → Holds n b l y z v
+              → Into r n l levels (take (max_levels - levels) bars) (row_of block) q (set b (mark_at i) 1) y z (node r b p bars i link levels y v)
+          told y z v x =
+              let e : elem (row_at i b).off v ≡ false = bit_false (elem (row_at i b).off v) (sym (mark_held x i h) ∙ c) in
               record {
                 printed = (row_at i b).off ∷ v;
-                holds = holds_marked q i h;
-                is = deeper y v ∙ shown_new r y (page out at) (edge_of bars (max_levels - levels) kind place) (row_at i b) v (levels - 1) e
-                    ∙ rw (← w.is, bars_below bars (max_levels - levels) kind place (omega arith), links_below y (row_at i b) first count (row_is b i).first_link (row_is b i).link_count, (row_is b i).kind);
+                holds = holds_marked x i h;
+                is = deeper y v ∙ shown_new r y (pg p) (edge_of bars (max_levels - levels) link) (row_at i b) v (levels - 1) e
+                    ∙ rw (← w.wrote.is, bars_below bars (max_levels - levels) link (no_depth link root) (omega arith), is, x.links);
               }
-
-          inside : (a' j f g : ℕ) → Below a own first (first + count) ≡ Below a' j f g → (f ≤ g) × (g ≤ m) × (1 ≤ levels)
-          inside a' j f g q =
-              let x : f ≡ first = cc in
-              let y : g ≡ first + count = cc in
-              (omega arith, omega (arith, links_fit r n b m l i p h), omega (arith, suc_levels))

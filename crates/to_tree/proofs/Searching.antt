@@ -1,118 +1,126 @@
 -- Laws of the children that a block's links lead to. Assumes nothing.
-use mathlib.Core.Path.{◌≡◌, refl, sym, ap, ◌∙◌}
-use mathlib.Core.List.{List, [], ◌∷◌}
-use Prim.Native.Nat.{ℕ, suc, ◌+◌, ◌*◌, ◌-◌, ◌≤◌, ◌<◌}
-use native.Mathlib.Omega.{arith}
-use lib.ListN.{length, get_or, take, drop}
-use lib.Seq.{drop-cons}
-use borrow.Author.Tests.{eq-eqb, ne_eqb}
+use Rattle.std.proofs.Common.{◌≡◌, refl, sym, ap, ◌∙◌, ℕ, suc, ◌+◌, ◌≤◌, ◌<◌, List}
+use Rattle.std.proofs.Common.{[], ◌∷◌, Option, Some, None, length, get_or, drop, map, add-one, arith}
+use lib.ListN.{drop_of_length-le}
+use Rattle.std.proofs.Math.Seq.{drop-cons}
+use Rattle.std.proofs.lemmas.Bool.{ne_eqb}
+use Rattle.std.proofs.lemmas.List.{length-map, get_or-map}
 use Rattle.mdf4.specs.Act.{Row, Link}
-use Rattle.mdf4.specs.Answers.{block_row_words, pair_words}
+use Rattle.mdf4.specs.Kinds.{null}
 use Rattle.mdf4.specs.Tree.{child_of, children}
 use Rattle.mdf4.proofs.Order.{Rising}
 use Rattle.mdf4.proofs.TreeCode.{search_hit, search_miss}
-use Rattle.tables.specs.Rows.{held_rows, held_links, row_at, link_at}
-use Rattle.tables.proofs.Words.{link_is, rows_at, rows_length, links_at, links_length}
-use Rattle.block_search.proofs.Searching.{rising_less, row_off}
-use Rattle.to_tree.specs.Search.{Leads, child, children_from, Next}
+use Rattle.tables.specs.Rows.{row_of_words, link_of_words}
+use Rattle.block_search.specs.Search.{Found}
+use Rattle.block_search.proofs.Searching.{rising_less}
+use Rattle.to_tree.specs.Search.{row_in, Leads, child, children_from, Next}
 
 -- the block that a link leads to
-pub leads_none : (n : ℕ) (b : List ℕ) (t : ℕ) → t ≡ 0 → Leads n b t n
+pub leads_none : (bs : List (List ℕ)) (t : ℕ) → t ≡ 0 → Leads bs t None
 unfolding child_of
-leads_none n b t z = record { hit = λ k. absurd (omega arith); miss = λ k r i l e. rw (eq-eqb l.target 0 (e ∙ z)) }
+leads_none bs t z = record { row = tt; child = λ r i l e. let null : l.target ≡ 0 = e ∙ z in rw null }
 
-pub leads_row : (n : ℕ) (b : List ℕ) (t r : ℕ) → (t ≡ 0 → ⊥) → r < n → get_or b (r * block_row_words) 0 ≡ t → Leads n b t r
-unfolding child_of
-leads_row n b t r nz h f = record { hit = λ k. hit; miss = λ k. absurd (omega arith) }
-  where
-    d : Row
-    d = row_at 0 b
+module _ (bs : List (List ℕ)) where
+  abbrev rows : List Row
+  rows = map row_of_words bs
 
-    hit : Rising (held_rows n b) → (i : ℕ) (l : Link) → l.target ≡ t → child_of i l (held_rows n b) ≡ child i (row_at r b)
-    hit u i l e =
-        let k : r < length (held_rows n b) = omega (arith, rows_length n b) in
-        let o : (get_or (held_rows n b) r d).off ≡ l.target = row_off n r b d h ∙ f ∙ sym e in
-        rw (ne_eqb l.target 0 (λ z. nz (sym e ∙ z)))
-        (search_hit i l.target (held_rows n b) r d k o (λ j q p. omega (arith, rising_less (held_rows n b) j r d u q k)) ∙ ap (child i) (rows_at n r b d h))
+  d : Row
+  d = row_in bs 0
 
-pub leads_nowhere : (n : ℕ) (b : List ℕ) (t : ℕ) → (t ≡ 0 → ⊥) → (Rising (held_rows n b) → (j : ℕ) → j < n → get_or b (j * block_row_words) 0 ≡ t → ⊥) → Leads n b t n
-unfolding child_of
-leads_nowhere n b t nz f = record { hit = λ k. absurd (omega arith); miss = λ k. miss }
-  where
-    d : Row
-    d = row_at 0 b
+  row_is : (i : ℕ) → i < length bs → get_or rows i d ≡ row_in bs i
+  row_is i h = get_or-map row_of_words bs i [] d h
 
-    miss : Rising (held_rows n b) → (i : ℕ) (l : Link) → l.target ≡ t → child_of i l (held_rows n b) ≡ []
-    miss u i l e =
-        rw (ne_eqb l.target 0 (λ z. nz (sym e ∙ z)))
-        (search_miss i l.target (held_rows n b) d (λ j q p.
-        let k : j < n = omega (arith, rows_length n b) in
-        f u j k (sym (row_off n j b d k) ∙ p ∙ e)))
+  pub leads_row : (t : ℕ) (r : Option ℕ) → (t ≡ 0 → ⊥) → Found bs t r → Leads bs t r
+  unfolding child_of
+  leads_row t (Some r) nz f = record { row = f.hit.0; child = hit }
+    where
+      hit : Rising rows → (i : ℕ) (l : Link) → l.target ≡ t → child_of i l rows ≡ child i (row_in bs r)
+      hit u i l e =
+          let k : r < length rows = omega (arith, length-map bs row_of_words, f.hit.0) in
+          let o : (get_or rows r d).off ≡ l.target = ap (λ (w : Row). w.off) (row_is r f.hit.0) ∙ f.hit.1 ∙ sym e in
+          rw (ne_eqb l.target 0 (λ z. nz (sym e ∙ z)))
+          (search_hit i l.target rows r d k o (λ j q p. omega (arith, rising_less rows j r d u q k)) ∙ ap (child i) (row_is r f.hit.0))
+  leads_row t None nz f = record { row = tt; child = miss }
+    where
+      miss : Rising rows → (i : ℕ) (l : Link) → l.target ≡ t → child_of i l rows ≡ []
+      miss u i l e =
+          rw (ne_eqb l.target 0 (λ z. nz (sym e ∙ z)))
+          (search_miss i l.target rows d (λ j q p.
+          let k : j < length bs = omega (arith, length-map bs row_of_words) in
+          f.miss u j k (sym (ap (λ (w : Row). w.off) (row_is j k)) ∙ p ∙ e)))
 
 -- children by the links from a place on
-pub from_cons : (first end i : ℕ) (ls : List Link) (ws : List Row) (d : Link) → first ≤ i → i < end → end ≤ length ls
-    → children_from first end i ls ws ≡ children (i - first) (get_or ls i d ∷ take (end - (i + 1)) (drop (i + 1) ls)) ws
+pub from_cons : (i : ℕ) (ls : List Link) (ws : List Row) (d : Link) → i < length ls
+    → children_from i ls ws ≡ children i (get_or ls i d ∷ drop (i + 1) ls) ws
 unfolding children_from
-from_cons first end i ls ws d h k q =
-    let e : end - i ≡ suc (end - (i + 1)) = omega arith in
-    let s : suc i ≡ i + 1 = omega arith in
-    rw (e, drop-cons ls i d (omega arith), s)
+from_cons i ls ws d h = rw (add-one, drop-cons ls i d h)
 
-pub from_next : (first end i : ℕ) (ls : List Link) (ws : List Row) → first ≤ i → children (suc (i - first)) (take (end - (i + 1)) (drop (i + 1) ls)) ws ≡ children_from first end (i + 1) ls ws
+pub from_next : (i : ℕ) (ls : List Link) (ws : List Row) → children (suc i) (drop (i + 1) ls) ws ≡ children_from (i + 1) ls ws
 unfolding children_from
-from_next first end i ls ws h =
-    let e : suc (i - first) ≡ i + 1 - first = omega arith in
-    rw e
+from_next i ls ws = rw add-one
 
-pub from_end : (first end i : ℕ) (ls : List Link) (ws : List Row) → end ≤ i → children_from first end i ls ws ≡ []
+pub from_end : (i : ℕ) (ls : List Link) (ws : List Row) → length ls ≤ i → children_from i ls ws ≡ []
 unfolding children_from children
-from_end first end i ls ws h =
-    let e : end - i ≡ 0 = omega arith in
-    rw e
+from_end i ls ws h = rw (drop_of_length-le ls {i = i} h)
 
 -- the target of a link, as the code reads it
-target_is : (l : List ℕ) (i : ℕ) → (link_at i l).target ≡ get_or l (i * pair_words) 0
-target_is l i = ap (λ (k : Link). k.target) (link_is l i)
+target_is : (words : List (List ℕ)) (i : ℕ) (d : List ℕ) → i < length words
+    → (get_or (map link_of_words words) i null).target ≡ get_or (get_or words i d) 0 0
+unfolding link_of_words
+target_is words i d h = ap (λ (l : Link). l.target) (get_or-map link_of_words words i d null h)
 
 -- no link from `from` up to i leads to a row
-pub record Passed (n : ℕ) (b l : List ℕ) (from end i : ℕ) : Type 0 where
+pub record Passed (bs : List (List ℕ)) (ls : List Link) (from i : ℕ) : Type 0 where
   pub least : from ≤ i
-  pub most : i ≤ end
-  pub rest : Rising (held_rows n b) → (m first : ℕ) → end ≤ m → first ≤ from
-      → children_from first end from (held_links m l) (held_rows n b) ≡ children_from first end i (held_links m l) (held_rows n b)
+  pub most : i ≤ length ls
+  pub rest : Rising (map row_of_words bs) → children_from from ls (map row_of_words bs) ≡ children_from i ls (map row_of_words bs)
 
-module _ (n : ℕ) (b l : List ℕ) (from end : ℕ) where
-  pub passed_none : from ≤ end → Passed n b l from end from
-  passed_none h = record { least = omega arith; most = h; rest = λ r m first k q. refl }
+module _ (bs words : List (List ℕ)) (from : ℕ) where
+  abbrev links : List Link
+  links = map link_of_words words
 
-  module _ (i : ℕ) (p : Passed n b l from end i) where
-    pub passed_one : (r : ℕ) → i < end → Leads n b (get_or l (i * pair_words) 0) r → n ≤ r → Passed n b l from end (i + 1)
+  abbrev ws : List Row
+  ws = map row_of_words bs
+
+  long : length links ≡ length words
+  long = length-map words link_of_words
+
+  pub passed_none : from ≤ length words → Passed bs links from from
+  passed_none h = record { least = omega arith; most = rw long h; rest = λ r. refl }
+
+  module _ (i : ℕ) (p : Passed bs links from i) (h : i < length words) (d : List ℕ) where
+    pub passed_one : {r : Option ℕ} → r ≡ None → Leads bs (get_or (get_or words i d) 0 0) r → Passed bs links from (i + 1)
     unfolding children
-    passed_one r h q k = record { least = omega (arith, p.least); most = omega arith; rest = rest }
+    passed_one {r} none q = record { least = omega (arith, p.least); most = omega (arith, long); rest = rest }
       where
-        rest : Rising (held_rows n b) → (m first : ℕ) → end ≤ m → first ≤ from
-            → children_from first end from (held_links m l) (held_rows n b) ≡ children_from first end (i + 1) (held_links m l) (held_rows n b)
-        rest u m first g f =
-            let j : first ≤ i = omega (arith, p.least) in
-            let e : child_of (i - first) (link_at i l) (held_rows n b) ≡ [] = q.miss k u (i - first) (link_at i l) (target_is l i) in
-            p.rest u m first g f
-            ∙ from_cons first end i (held_links m l) (held_rows n b) (link_at i l) j h (omega (arith, links_length m l))
-            ∙ rw (links_at m i l (link_at i l) (omega arith), e) (from_next first end i (held_links m l) (held_rows n b) j)
+        rest : Rising ws → children_from from links ws ≡ children_from (i + 1) links ws
+        rest u =
+            let e : child_of i (get_or links i null) ws ≡ [] = q.child u i (get_or links i null) (target_is words i d h) ∙ rw none in
+            p.rest u ∙ from_cons i links ws null (rw long h) ∙ rw e (from_next i links ws)
 
-    pub next_row : (r : ℕ) → i < end → Leads n b (get_or l (i * pair_words) 0) r → r < n → Next n b l from end (record { link = i; row = r })
-    next_row r h q k = record {
-      least = p.least;
-      most = p.most;
-      row = λ z. k;
-      child_at = λ u z j. q.hit k u j (link_at i l) (target_is l i);
-      rest = p.rest;
-    }
+    pub next_row : {r : Option ℕ} (row : ℕ) → r ≡ Some row → Leads bs (get_or (get_or words i d) 0 0) r
+        → Next bs links from (Some (record { place = i; row = row }))
+    next_row {r} row some q =
+        let found : Leads bs (get_or (get_or words i d) 0 0) (Some row) = rw some at q in
+        record {
+          inside = rw long h;
+          stops = record {
+            least = p.least;
+            most = p.most;
+            row = λ z. found.row;
+            child_at = λ u z. found.child u i (get_or links i null) (target_is words i d h);
+            rest = p.rest;
+          };
+        }
 
-    pub next_none : end ≤ i → (r : ℕ) → Next n b l from end (record { link = end; row = r })
-    next_none h r = let e : i ≡ end = omega (arith, p.most) in record {
+  pub next_none : (i : ℕ) → length words ≤ i → Passed bs links from i → Next bs links from None
+  next_none i h p = let e : i ≡ length links = omega (arith, long, p.most) in record {
+    inside = tt;
+    stops = record {
       least = omega (arith, p.least);
       most = omega arith;
       row = λ z. absurd (omega arith);
       child_at = λ u z. absurd (omega arith);
       rest = rw e at p.rest;
-    }
+    };
+  }

@@ -1,39 +1,46 @@
 -- Laws of the printer's loops: over a node's children, and over the roots. Assumes nothing.
-use mathlib.Core.Path.{◌≡◌, refl, sym, ap, subst, ◌∙◌}
-use mathlib.Core.Bool.{Bool, true, false}
-use mathlib.Core.List.{List, [], ◌∷◌}
-use Prim.Native.Nat.{ℕ, suc, ◌+◌, ◌-◌, ◌≤◌, ◌<◌}
-use native.Mathlib.Omega.{arith}
-use lib.Dec.{leb}
-use lib.ListN.{length, get_or, take, drop, set, drop_of_length-le}
-use lib.Seq.{drop-cons}
+use Rattle.std.proofs.Common.{◌≡◌, refl, sym, ap, subst, ◌∙◌, ℕ, suc, ◌+◌, ◌-◌, ◌≤◌, ◌<◌, Bool, true, false, not}
+use Rattle.std.proofs.Common.{leb, List, [], ◌∷◌, Option, Some, None, Result, Ok, Err, length, get_or, take, drop, set, map, arith}
+use Rattle.std.proofs.Math.Seq.{drop-cons}
+use lib.ListN.{drop_of_length-le}
+use Rattle.std.specs.Option.{is_some, IfSome}
+use Rattle.std.specs.Result.{IsErrAnd}
+use Rattle.std.proofs.lemmas.List.{length-map, take-map, drop-map}
 use borrow.Author.Tests.{le-leb, lt-leb, leb-true, leb-false}
-use Rattle.fmt.specs.Text.{Page, page, emit}
+use Rattle.fmt.specs.Text.{Page, emit}
+use Rattle.fmt.specs.declared.Page as lent
 use Rattle.mdf4.specs.Act.{Refusal, Out, ok, err, and_then, Kind, Row, Link, elem}
+use Rattle.mdf4.specs.Kinds.{null}
 use Rattle.mdf4.specs.Layout.{Layout}
-use Rattle.mdf4.specs.Tree.{Edge, root, edge, Child, child_of, children, none_left, Printed, render_children, render_tree_node, roots, to_tree, max_levels}
+use Rattle.mdf4.specs.Listing.{links_of}
+use Rattle.mdf4.specs.Tree.{Edge, root, edge, Child, child_of, children}
+use Rattle.mdf4.specs.Tree.{none_left, Printed, render_children, render_tree_node, roots, to_tree, max_levels}
 use Rattle.mdf4.proofs.Order.{Rising}
 use Rattle.mdf4.proofs.TreeCode.{Shown, shown, turn_child, root_again, root_new}
 use Rattle.blocks.specs.Errors.{numbers}
+use Rattle.blocks.specs.Kind.{kind_named}
 use Rattle.blocks.specs.declared.error.MdfError.{MdfError}
-use Rattle.tables.specs.Rows.{kind_of, held_rows, row_at, link_at}
-use Rattle.tables.proofs.Words.{links_at, links_length}
-use Rattle.to_tree.specs.Search.{child, children_from, Next}
-use Rattle.to_tree.specs.Lines.{flag, flags, edge_of}
-use Rattle.to_tree.specs.Printing.{Holds, Went, Stopped, Prints, below, Into, Opens, not_opened, TreeMet}
+use Rattle.tables.specs.Rows.{row_of_words, link_of_words, row_at, row_of}
+use Rattle.tables.specs.declared.BlockInfo.{BlockInfo}
+use Rattle.tables.proofs.Tables.{table_length}
+use Rattle.to_tree.specs.Ready.{rows_of}
+use Rattle.to_tree.specs.Search.{child, children_from, stop, Stops, Next}
+use Rattle.to_tree.specs.Lines.{edge_of}
+use Rattle.to_tree.specs.Printing.{Holds, Went, Stopped, Printing, below, Into, Opening, Same, TreeMet}
 use Rattle.to_tree.specs.declared.search.Child as declared
-use Rattle.std.proofs.Common.{Result, Ok, Err}
-use Rattle.to_tree.specs.declared.Opened.{Opened}
-use Rattle.to_tree.specs.declared.Opened.TheVariants.{Below, Done, Refused as OpenedRefused}
+use Rattle.to_tree.specs.declared.line.Edge as link
+use Rattle.to_tree.specs.declared.printer.Printer.{Printer}
 use Rattle.to_tree.proofs.Lines.{child_edge}
-use Rattle.to_tree.proofs.Opening.{node}
+use Rattle.to_tree.proofs.Opening.{pg}
 use Rattle.to_tree.proofs.Searching.{from_cons, from_next, from_end}
-use Rattle.to_tree.proofs.Marking.{mark_at, bit_true, bit_false, rows_held, row_held, mark_held}
+use Rattle.to_tree.proofs.Marking.{mark_at, bit_true, bit_false, row_shown, rows_shown, row_held, mark_held}
 
 -- a turn over the links, by the children behind it
-turn_as : (f : Edge → Row → List ℕ → Out Printed) (bars : List Bool) (k : Kind) (i : ℕ) (l : Link) (ls : List Link) (ws : List Row) (v : List ℕ) (p : Page) (w : Row)
-    → child_of i l ws ≡ child i w → (cs : List Child) → children (suc i) ls ws ≡ cs → (t : Bool) → none_left cs ≡ t
-    → shown p (render_children f bars k (children i (l ∷ ls) ws) v) ≡ and_then (shown p (f (edge bars t k i) w v)) (λ z. shown z.0 (render_children f bars k cs z.1))
+turn_as : (f : Edge → Row → List ℕ → Out Printed) (bars : List Bool) (k : Kind) (i : ℕ) (l : Link) (ls : List Link) (ws : List Row)
+    (v : List ℕ) (p : Page) (w : Row) → child_of i l ws ≡ child i w
+    → (cs : List Child) → children (suc i) ls ws ≡ cs → (t : Bool) → none_left cs ≡ t
+    → shown p (render_children f bars k (children i (l ∷ ls) ws) v)
+    ≡ and_then (shown p (f (edge bars t k i) w v)) (λ z. shown z.0 (render_children f bars k cs z.1))
 turn_as f bars k i l ls ws v p w e cs c t n = rw (← n, ← c) (turn_child f bars k i l ls ws v p (record { place = i; row = w }) e)
 
 -- a step that goes on, or that refuses
@@ -45,229 +52,292 @@ then_err : (o : Out Shown) (d : Refusal) (f : Shown → Out Shown) → o ≡ err
 unfolding and_then
 then_err o d f e = rw e
 
--- whether a child is left, by its link
-left_none : (first end i : ℕ) (ls : List Link) (ws : List Row) → end ≤ i → none_left (children_from first end i ls ws) ≡ leb end i
+-- whether a child is left, by its place
+left_none : (i : ℕ) (ls : List Link) (ws : List Row) → length ls ≤ i → none_left (children_from i ls ws) ≡ leb (length ls) i
 unfolding none_left
-left_none first end i ls ws h = rw (from_end first end i ls ws h, le-leb end i h)
+left_none i ls ws h = rw (from_end i ls ws h, le-leb (length ls) i h)
 
-left_some : (first end i : ℕ) (ls : List Link) (ws : List Row) (d : Link) (w : Row) → first ≤ i → i < end → end ≤ length ls
-    → child_of (i - first) (get_or ls i d) ws ≡ child (i - first) w → none_left (children_from first end i ls ws) ≡ leb end i
+left_some : (i : ℕ) (ls : List Link) (ws : List Row) (d : Link) (w : Row) → i < length ls → child_of i (get_or ls i d) ws ≡ child i w
+    → none_left (children_from i ls ws) ≡ leb (length ls) i
 unfolding none_left children
-left_some first end i ls ws d w h k q e = rw (from_cons first end i ls ws d h k q, e, lt-leb end i k)
+left_some i ls ws d w h e = rw (from_cons i ls ws d h, e, lt-leb (length ls) i h)
 
--- what is left of the outcome o at the child c
-pub record Left (r : List ℕ) (n m : ℕ) (l : List ℕ) (levels : ℕ) (bars : List Bool) (kind first end : ℕ) (b out : List ℕ) (a : ℕ) (c : declared.Child) (y : Layout) (z : List ℕ) (o : Out Shown) : Type 0 where
+-- whether the search stopped at the end
+pub last_is : {bs : List (List ℕ)} {ls : List Link} {from : ℕ} (t : Bool) (c : Option declared.Child) → is_some c ≡ not t → Next bs ls from c
+    → t ≡ leb (length ls) (stop (length ls) c).place
+last_is {ls = ls} false (Some c) e x = sym (lt-leb (length ls) c.place x.inside)
+last_is {ls = ls} true None e x = sym (le-leb (length ls) (length ls) (omega arith))
+last_is true (Some c) e x = let z : ◌≡◌ {A = ℕ} 0 1 = cc in absurd (omega arith)
+last_is false None e x = let z : ◌≡◌ {A = ℕ} 0 1 = cc in absurd (omega arith)
+
+-- a place among a block's links
+pub place_in : (words : List (List ℕ)) (i : ℕ) → i < length words → i < length (map link_of_words words)
+place_in words i h = omega (arith, length-map words link_of_words)
+
+pub child_in : (words : List (List ℕ)) (c : Option declared.Child) → IfSome c (λ x. x.place < length (map link_of_words words))
+    → IfSome c (λ x. x.place < length words)
+child_in words (Some c) h = omega (arith, length-map words link_of_words)
+child_in words None h = tt
+
+-- of the outcome o, the child c of a block of kind k with the links ls is next
+pub record Left (r : List ℕ) (n : ℕ) (l : List (List ℕ)) (levels : ℕ) (bars : List Bool) (k : Kind) (ls : List Link) (b : List ℕ) (p : lent.Page)
+    (c : declared.Child) (y : Layout) (z : List ℕ) (o : Out Shown) : Type 0 where
   pub printed : List ℕ
-  pub holds : Holds n b m l y z printed
-  pub child_at : c.link < end → (i : ℕ) → child_of i (link_at c.link l) y.blocks ≡ child i (row_at c.row b)
-  pub is : o ≡ shown (page out a) (below r y levels bars kind first end c.link printed)
+  pub holds : Holds n b l y z printed
+  pub child_at : c.place < length ls → child_of c.place (get_or ls c.place null) y.blocks ≡ child c.place (row_at c.row b)
+  pub is : o ≡ shown (pg p) (below r y levels bars k ls c.place printed)
 
--- the loop over the children, entered with b₀, out₀ and a₀
-pub record Turning (r : List ℕ) (n m : ℕ) (l : List ℕ) (levels : ℕ) (bars : List Bool) (kind first end : ℕ) (b₀ out₀ : List ℕ) (a₀ : ℕ) (b out : List ℕ) (a : ℕ) (c : declared.Child) : Type 0 where
-  pub least : first ≤ c.link
-  pub most : c.link ≤ end
-  pub row : c.link < end → c.row < n
+-- the loop over the children, entered with b₀ and p₀
+pub record Turning (r : List ℕ) (n : ℕ) (l : List (List ℕ)) (levels : ℕ) (bars : List Bool) (k : Kind) (ls : List Link) (b₀ : List ℕ) (p₀ : lent.Page)
+    (b : List ℕ) (p : lent.Page) (c : declared.Child) : Type 0 where
+  pub row : c.place < length ls → c.row < n
   pub same : (i : ℕ) → row_at i b ≡ row_at i b₀
-  pub left : (y : Layout) (z v : List ℕ) → Holds n b₀ m l y z v
-      → Left r n m l levels bars kind first end b out a c y z (shown (page out₀ a₀) (below r y levels bars kind first end first v))
+  pub left : (y : Layout) (z v : List ℕ) → Holds n b₀ l y z v → Left r n l levels bars k ls b p c y z (shown (pg p₀) (below r y levels bars k ls 0 v))
 
-module _ (r : List ℕ) (n m : ℕ) (l : List ℕ) (levels : ℕ) (bars : List Bool) (kind first end : ℕ) (b₀ out₀ : List ℕ) (a₀ : ℕ) (q : end ≤ m) where
-  -- the next child of a layout that the tables hold
-  module _ (b : List ℕ) (from : ℕ) (c : declared.Child) (x : Next n b l from end c) (y : Layout) (z v : List ℕ) (h : Holds n b m l y z v) where
-    rises : Rising (held_rows n b)
-    rises = rw (← rows_held h) h.rising
+-- the next child, among the rows of the table b
+module _ (n : ℕ) (b : List ℕ) (ls : List Link) (from : ℕ) (c : declared.Child) (x : Stops (rows_of n b) ls from c) where
+  next_in : c.place < length ls → c.row < n
+  next_in h = omega (arith, x.row h, table_length 12 (λ row. row) n b)
 
-    next_at : c.link < end → (i : ℕ) → child_of i (link_at c.link l) y.blocks ≡ child i (row_at c.row b)
-    next_at k i = rw (rows_held h) (x.child_at rises k i)
+  -- of a layout that the tables hold
+  module _ {l : List (List ℕ)} {y : Layout} {z v : List ℕ} (h : Holds n b l y z v) where
+    rises : Rising (map row_of_words (rows_of n b))
+    rises = rw (← rows_shown h) h.rising
 
-    next_rest : first ≤ from → children_from first end from y.state.links y.blocks ≡ children_from first end c.link y.state.links y.blocks
-    next_rest k = rw (rows_held h, h.links) (x.rest rises m first q k)
+    next_at : c.place < length ls → child_of c.place (get_or ls c.place null) y.blocks ≡ child c.place (row_at c.row b)
+    next_at d = rw (rows_shown h) (x.child_at rises d ∙ ap (child c.place) (row_shown n b c.row [] (next_in d)))
 
-    next_left : first ≤ from → none_left (children_from first end c.link y.state.links y.blocks) ≡ leb end c.link
-    next_left k = go (leb end c.link) refl
+    next_rest : children_from from ls y.blocks ≡ children_from c.place ls y.blocks
+    next_rest = rw (rows_shown h) (x.rest rises)
+
+    next_left : none_left (children_from c.place ls y.blocks) ≡ leb (length ls) c.place
+    next_left = go (leb (length ls) c.place) refl
       where
-        go : (t : Bool) → leb end c.link ≡ t → none_left (children_from first end c.link y.state.links y.blocks) ≡ leb end c.link
-        go true e = left_none first end c.link y.state.links y.blocks (leb-true end c.link e)
+        go : (t : Bool) → leb (length ls) c.place ≡ t → none_left (children_from c.place ls y.blocks) ≡ leb (length ls) c.place
+        go true e = left_none c.place ls y.blocks (leb-true (length ls) c.place e)
         go false e =
-            let j : c.link < end = leb-false end c.link e in
-            let g : end ≤ length y.state.links = rw h.links (omega (arith, links_length m l)) in
-            let f : get_or y.state.links c.link (link_at c.link l) ≡ link_at c.link l = rw h.links (links_at m c.link l (link_at c.link l) (omega arith)) in
-            left_some first end c.link y.state.links y.blocks (link_at c.link l) (row_at c.row b) (omega (arith, x.least, k)) j g (rw f (next_at j (c.link - first)))
+            let d : c.place < length ls = leb-false (length ls) c.place e in
+            left_some c.place ls y.blocks null (row_at c.row b) d (next_at d)
 
-  pub turning : (c : declared.Child) → first ≤ end → Next n b₀ l first end c → Turning r n m l levels bars kind first end b₀ out₀ a₀ b₀ out₀ a₀ c
+module _ (r : List ℕ) (n : ℕ) (l : List (List ℕ)) (levels : ℕ) (bars : List Bool) (k : Kind) (ls : List Link) (b₀ : List ℕ) (p₀ : lent.Page) where
+  pub turning : (c : declared.Child) → Stops (rows_of n b₀) ls 0 c → Turning r n l levels bars k ls b₀ p₀ b₀ p₀ c
   unfolding below
-  turning c k x = record {
-    least = x.least;
-    most = x.most;
-    row = x.row;
+  turning c x = record {
+    row = next_in n b₀ ls 0 c x;
     same = λ i. refl;
-    left = λ y z v h. record { printed = v; holds = h; child_at = next_at b₀ first c x y z v h; is = rw (next_rest b₀ first c x y z v h (omega arith)) };
+    left = λ y z v h. record { printed = v; holds = h; child_at = next_at n b₀ ls 0 c x h; is = rw (next_rest n b₀ ls 0 c x h) };
   }
 
-  module _ (b out : List ℕ) (a : ℕ) (c : declared.Child) (t : Turning r n m l levels bars kind first end b₀ out₀ a₀ b out a c) where
+  module _ (b : List ℕ) (p : lent.Page) (c : declared.Child) (t : Turning r n l levels bars k ls b₀ p₀ b p c) where
     -- what the child c prints
     abbrev child_node : Bool → Layout → List ℕ → Out Shown
-    child_node last y v = shown (page out a) (render_tree_node r y levels (edge bars last (kind_of kind) (c.link - first)) (row_at c.row b) v)
+    child_node last y v = shown (pg p) (render_tree_node r y levels (edge bars last k c.place) (row_at c.row b) v)
 
-    module _ (k : c.link < end) (c' : declared.Child) (x : Next n b l (c.link + 1) end c') where
-      turned : (y : Layout) (z v : List ℕ) → Holds n b m l y z v → child_of (c.link - first) (link_at c.link l) y.blocks ≡ child (c.link - first) (row_at c.row b)
-          → shown (page out a) (below r y levels bars kind first end c.link v) ≡ and_then (child_node (leb end c'.link) y v) (λ p. shown p.0 (below r y levels bars kind first end c'.link p.1))
+    module _ (d : c.place < length ls) (c' : declared.Child) (x : Stops (rows_of n b) ls (c.place + 1) c') where
+      turned : (y : Layout) (z v : List ℕ) → Holds n b l y z v → child_of c.place (get_or ls c.place null) y.blocks ≡ child c.place (row_at c.row b)
+          → shown (pg p) (below r y levels bars k ls c.place v)
+          ≡ and_then (child_node (leb (length ls) c'.place) y v) (λ s. shown s.0 (below r y levels bars k ls c'.place s.1))
       unfolding below
       turned y z v h e =
-          let g : end ≤ length y.state.links = rw h.links (omega (arith, links_length m l)) in
-          let f : get_or y.state.links c.link (link_at c.link l) ≡ link_at c.link l = rw h.links (links_at m c.link l (link_at c.link l) (omega arith)) in
-          rw (from_cons first end c.link y.state.links y.blocks (link_at c.link l) t.least k g, f)
-          (turn_as (render_tree_node r y levels) bars (kind_of kind) (c.link - first) (link_at c.link l) _ y.blocks v (page out a) (row_at c.row b) e _
-          (from_next first end c.link y.state.links y.blocks t.least ∙ next_rest b (c.link + 1) c' x y z v h (omega (arith, t.least))) _
-          (next_left b (c.link + 1) c' x y z v h (omega (arith, t.least))))
+          rw (from_cons c.place ls y.blocks null d)
+          (turn_as (render_tree_node r y levels) bars k c.place (get_or ls c.place null) _ y.blocks v (pg p) (row_at c.row b) e _
+          (from_next c.place ls y.blocks ∙ next_rest n b ls (c.place + 1) c' x h) _ (next_left n b ls (c.place + 1) c' x h))
 
-      module _ (bit : ℕ) (last : flag bit ≡ leb end c'.link) (w : Result ℕ MdfError) (out' b' : List ℕ) (p : Prints n b m l w out' b' (child_node (flag bit))) where
-        pub turn : (a' : ℕ) → w ≡ Ok a' → Turning r n m l levels bars kind first end b₀ out₀ a₀ b' out' a' c'
-        turn a' e = record {
-          least = omega (arith, t.least, x.least);
-          most = x.most;
-          row = x.row;
-          same = λ i. p.same i ∙ t.same i;
-          left = left;
-        }
+      module _ {A : Type 0} (last : Bool) (is : last ≡ leb (length ls) c'.place) (w : Result A MdfError) (p' : lent.Page) (b' : List ℕ)
+          (s : Printing n b l w p' b' (child_node last)) where
+        pub turn : (u : A) → w ≡ Ok u → Turning r n l levels bars k ls b₀ p₀ b' p' c'
+        turn u e = record { row = next_in n b ls (c.place + 1) c' x; same = λ i. s.same i ∙ t.same i; left = left }
           where
-            left : (y : Layout) (z v : List ℕ) → Holds n b₀ m l y z v
-                → Left r n m l levels bars kind first end b' out' a' c' y z (shown (page out₀ a₀) (below r y levels bars kind first end first v))
+            left : (y : Layout) (z v : List ℕ) → Holds n b₀ l y z v
+                → Left r n l levels bars k ls b' p' c' y z (shown (pg p₀) (below r y levels bars k ls 0 v))
             left y z v h =
-                let s = t.left y z v h in
-                let g : Went a' out' b' y z (child_node (flag bit) y s.printed) = rw e at (p.told y z s.printed s.holds) in
-                let f : child_node (leb end c'.link) y s.printed ≡ ok (page out' a', g.printed) = rw (← last) g.is in
+                let f = t.left y z v h in
+                let g : Went p' b' y z (child_node last y f.printed) = rw e at (s.told y z f.printed f.holds) in
+                let j : child_node (leb (length ls) c'.place) y f.printed ≡ ok (pg p', g.printed) = rw (← is) g.is in
                 record {
                   printed = g.printed;
-                  holds = record { rows = g.rows; count = s.holds.count; links = s.holds.links; rising = s.holds.rising };
-                  child_at = λ j i. rw (p.same c'.row) (next_at b (c.link + 1) c' x y z s.printed s.holds j i);
-                  is = s.is ∙ turned y z s.printed s.holds (s.child_at k (c.link - first)) ∙ then_ok _ _ _ f;
+                  holds = record { rows = g.rows; count = f.holds.count; links = f.holds.links; rising = f.holds.rising };
+                  child_at = λ q. rw (s.same c'.row) (next_at n b ls (c.place + 1) c' x f.holds q);
+                  is = f.is ∙ turned y z f.printed f.holds (f.child_at d) ∙ then_ok _ _ _ j;
                 }
 
-        pub turn_no : (d : MdfError) → w ≡ Err d → (y : Layout) (z v : List ℕ) → Holds n b₀ m l y z v → Stopped d (shown (page out₀ a₀) (below r y levels bars kind first end first v))
-        turn_no d e y z v h =
-            let s = t.left y z v h in
-            let g : Stopped d (child_node (flag bit) y s.printed) = rw e at (p.told y z s.printed s.holds) in
-            let f : child_node (leb end c'.link) y s.printed ≡ err (numbers d) = rw (← last) g.is in
-            record { is = s.is ∙ turned y z s.printed s.holds (s.child_at k (c.link - first)) ∙ then_err _ _ _ f }
+        pub turn_no : (a : MdfError) → w ≡ Err a → (y : Layout) (z v : List ℕ) → Holds n b₀ l y z v
+            → Stopped a (shown (pg p₀) (below r y levels bars k ls 0 v))
+        turn_no a e y z v h =
+            let f = t.left y z v h in
+            let g : Stopped a (child_node last y f.printed) = rw e at (s.told y z f.printed f.holds) in
+            let j : child_node (leb (length ls) c'.place) y f.printed ≡ err (numbers a) = rw (← is) g.is in
+            record { is = f.is ∙ turned y z f.printed f.holds (f.child_at d) ∙ then_err _ _ _ j }
 
-    pub turned_all : end ≤ c.link → (y : Layout) (z v : List ℕ) → Holds n b₀ m l y z v → Went a out b y z (shown (page out₀ a₀) (below r y levels bars kind first end first v))
+    pub turned_all : length ls ≤ c.place → (y : Layout) (z v : List ℕ) → Holds n b₀ l y z v
+        → Went p b y z (shown (pg p₀) (below r y levels bars k ls 0 v))
     unfolding below render_children shown emit
-    turned_all k y z v h =
-        let s = t.left y z v h in
-        record { printed = s.printed; is = s.is ∙ rw (from_end first end c.link y.state.links y.blocks k); rows = s.holds.rows }
+    turned_all d y z v h =
+        let f = t.left y z v h in
+        record { printed = f.printed; is = f.is ∙ rw (from_end c.place ls y.blocks d); rows = f.holds.rows }
+
+-- one step after the other goes on with the same
+pub same_once : {p : Printer} → Same p p
+same_once = record { file = refl; links = refl; n = refl; blocks = refl; page = refl; out = refl }
+
+pub same_twice : {p q s : Printer} → Same p q → Same q s → Same p s
+same_twice h k = record {
+  file = k.file ∙ h.file;
+  links = k.links ∙ h.links;
+  n = k.n ∙ h.n;
+  blocks = k.blocks ∙ h.blocks;
+  page = k.page ∙ h.page;
+  out = k.out ∙ h.out;
+}
+
+-- what the node of the row w prints that is reached by the edge s
+abbrev by_edge : List ℕ → lent.Page → Row → Edge → ℕ → Layout → List ℕ → Out Shown
+by_edge r p w s levels y v = shown (pg p) (render_tree_node r y levels s w v)
+
+-- by what the printer reads from the start
+as_first : {A : Type 0} {p₀ p : Printer} (h : Same p₀ p) (a : Result A MdfError) (q : lent.Page) (b : List ℕ) (w : Row) (s : Edge) (levels : ℕ)
+    → Printing p.n p.blocks.now p.links.now a q b (by_edge p.file.now p.page.now w s levels)
+    → Printing p₀.n p.blocks.now p₀.links.now a q b (by_edge p₀.file.now p.page.now w s levels)
+as_first h a q b w s levels x = rw (h.n, h.links, h.file) at x
 
 -- what a child prints, by its edge
-pub child_prints : (r : List ℕ) (n : ℕ) (b : List ℕ) (m : ℕ) (l : List ℕ) (w : Result ℕ MdfError) (out out' b' : List ℕ) (a row kind place levels x : ℕ) (bars bars₀ : List ℕ)
-    → length bars ≡ max_levels → 1 ≤ levels → levels ≤ max_levels → take (max_levels - levels) bars ≡ take (max_levels - levels) bars₀
-    → Prints n b m l w out' b' (node r b out a (set bars (max_levels - levels) x) row kind place (levels - 1))
-    → Prints n b m l w out' b' (λ y v. shown (page out a) (render_tree_node r y (levels - 1) (edge (flags (take (max_levels - levels) bars₀)) (flag x) (kind_of kind) place) (row_at row b) v))
-child_prints r n b m l w out out' b' a row kind place levels x bars bars₀ h k q e p =
-    let f : edge_of (set bars (max_levels - levels) x) (max_levels - (levels - 1)) kind place ≡ edge (flags (take (max_levels - levels) bars₀)) (flag x) (kind_of kind) place
-    = child_edge bars levels x kind place h k q ∙ ap (λ (xs : List ℕ). edge (flags xs) (flag x) (kind_of kind) place) e in
-    subst (λ (s : Edge). Prints n b m l w out' b' (λ y v. shown (page out a) (render_tree_node r y (levels - 1) s (row_at row b) v))) f p
+pub child_prints : {A : Type 0} {p₀ p : Printer} (h : Same p₀ p) (a : Result A MdfError) (q : lent.Page) (b : List ℕ) (w : Row) (e : link.Edge)
+    (levels : ℕ) (last : Bool) (bars : List Bool)
+    → length p.bars ≡ max_levels → 1 ≤ levels → levels ≤ max_levels → take (max_levels - levels) p.bars ≡ take (max_levels - levels) bars
+    → Printing p.n p.blocks.now p.links.now a q b
+    (by_edge p.file.now p.page.now w (edge_of (set p.bars (max_levels - levels) last) (max_levels - (levels - 1)) (Some e)) (levels - 1))
+    → Printing p₀.n p.blocks.now p₀.links.now a q b
+    (by_edge p₀.file.now p.page.now w (edge (take (max_levels - levels) bars) last (kind_named e.kind) e.place) (levels - 1))
+child_prints {p = p} h a q b w e levels last bars long k m x s =
+    let f = child_edge p.bars levels last e long k m ∙ ap (λ (xs : List Bool). edge xs last (kind_named e.kind) e.place) x in
+    as_first h a q b w _ (levels - 1)
+    (subst (λ (s : Edge). Printing p.n p.blocks.now p.links.now a q b (by_edge p.file.now p.page.now w s (levels - 1))) f s)
 
--- a node from its opening on: nothing to follow; a child refuses; all children are printed
-module _ (r : List ℕ) (n : ℕ) (b : List ℕ) (m : ℕ) (l : List ℕ) (levels : ℕ) (bars : List Bool) (out₁ b₁ : List ℕ) (o : Layout → List ℕ → Out Shown) where
-  pub unopened : (q : Opened) (x : Result ℕ MdfError) → ((a k f e : ℕ) → q ≡ Below a k f e → ⊥) → x ≡ not_opened q → Opens r n b m l levels bars q out₁ b₁ o → Prints n b m l x out₁ b₁ o
-  unopened (Done a) x g e p = record { told = λ y z v h. rw e (p.told y z v h); same = p.same }
-  unopened (OpenedRefused d) x g e p = record { told = λ y z v h. rw e (p.told y z v h); same = p.same }
-  unopened (Below a k f e) x g i p = absurd (g a k f e refl)
+-- a refusal that `?` hands up
+pub handed : {A : Type 0} {n : ℕ} {b : List ℕ} {l : List (List ℕ)} {p' : lent.Page} {b' : List ℕ} {o : Layout → List ℕ → Out Shown} {d : MdfError}
+    (q : Result A MdfError) → IsErrAnd q (λ x. x ≡ d) → Printing {A = A} n b l (Err d) p' b' o → Printing n b l q p' b' o
+handed (Ok u) h x = absurd h
+handed (Err e) h x = rw h x
 
-  module _ (q : Opened) (p : Opens r n b m l levels bars q out₁ b₁ o) (a kind first end : ℕ) (e : q ≡ Below a kind first end) (out' b' : List ℕ) (s : (i : ℕ) → row_at i b' ≡ row_at i b₁) where
-    into : (y : Layout) (z v : List ℕ) → Holds n b m l y z v → Into r n m l levels bars a kind first end out₁ b₁ y z (o y v)
-    into y z v h = rw e at (p.told y z v h)
+-- the links to follow, of a node that was opened
+pub followed : {r : List ℕ} {n : ℕ} {b : List ℕ} {l : List (List ℕ)} {levels : ℕ} {bars : List Bool} {q : Option BlockInfo} {w : BlockInfo}
+    {p' : lent.Page} {b' : List ℕ} {o : Layout → List ℕ → Out Shown}
+    → q ≡ Some w → Opening r n b l levels bars (Ok q) p' b' o → (w.first_link + w.link_count ≤ length l) × (1 ≤ levels)
+followed e s = rw e at s.inside
 
-    pub refused_below : (w : Result ℕ MdfError) (d : MdfError) → w ≡ Err d
-        → ((y : Layout) (z v : List ℕ) → Holds n b₁ m l y z v → Stopped d (shown (page out₁ a) (below r y (levels - 1) bars kind first end first v))) → Prints n b m l w out' b' o
-    refused_below w d g f = record {
-      told = λ y z v h. let t = into y z v h in rw g (record { is = t.is ∙ (f y z t.printed t.holds).is });
-      same = λ i. s i ∙ p.same i;
+-- a block's own links, as the code has them
+pub own_links : (l : List (List ℕ)) (w : BlockInfo)
+    → map link_of_words (take (w.first_link + w.link_count - w.first_link) (drop w.first_link l)) ≡ links_of (map link_of_words l) (row_of w)
+unfolding links_of row_of
+own_links l w =
+    let count : w.first_link + w.link_count - w.first_link ≡ w.link_count = omega arith in
+    rw (count, drop-map link_of_words w.first_link l, take-map)
+
+-- a node from its opening on, with links to follow: a child refuses; all children are printed
+module _ (r : List ℕ) (n : ℕ) (b : List ℕ) (l : List (List ℕ)) (levels : ℕ) (bars : List Bool) (p₁ : lent.Page) (b₁ : List ℕ)
+    (o : Layout → List ℕ → Out Shown) (q : Result (Option BlockInfo) MdfError) (s : Opening r n b l levels bars q p₁ b₁ o) where
+  module _ (w : BlockInfo) (e : q ≡ Ok (Some w)) (p' : lent.Page) (b' : List ℕ) (g : (i : ℕ) → row_at i b' ≡ row_at i b₁) where
+    into : (y : Layout) (z v : List ℕ) → Holds n b l y z v → Into r n l levels bars (row_of w) p₁ b₁ y z (o y v)
+    into y z v h = rw e at (s.told y z v h)
+
+    abbrev rest : Layout → List ℕ → Out Shown
+    rest y v = shown (pg p₁) (below r y (levels - 1) bars (row_of w).kind (links_of (map link_of_words l) (row_of w)) 0 v)
+
+    pub refused_below : {A : Type 0} (d : MdfError) → ((y : Layout) (z v : List ℕ) → Holds n b₁ l y z v → Stopped d (rest y v))
+        → Printing {A = A} n b l (Err d) p' b' o
+    refused_below d f = record {
+      told = λ y z v h. let t = into y z v h in record { is = t.is ∙ (f y z t.printed t.holds).is };
+      same = λ i. g i ∙ s.same i;
     }
 
-    pub printed_below : (a' : ℕ)
-        → ((y : Layout) (z v : List ℕ) → Holds n b₁ m l y z v → Went a' out' b' y z (shown (page out₁ a) (below r y (levels - 1) bars kind first end first v))) → Prints n b m l (Ok a') out' b' o
-    printed_below a' f = record {
-      told = λ y z v h. let t = into y z v h in let u = f y z t.printed t.holds in record { printed = u.printed; is = t.is ∙ u.is; rows = u.rows };
-      same = λ i. s i ∙ p.same i;
+    pub printed_below : {A : Type 0} (u : A) → ((y : Layout) (z v : List ℕ) → Holds n b₁ l y z v → Went p' b' y z (rest y v))
+        → Printing n b l (Ok u) p' b' o
+    printed_below u f = record {
+      told = λ y z v h. let t = into y z v h in let x = f y z t.printed t.holds in record { printed = x.printed; is = t.is ∙ x.is; rows = x.rows };
+      same = λ i. g i ∙ s.same i;
     }
 
 -- a root has all levels and no edge
-pub root_prints : (r : List ℕ) (n : ℕ) (b : List ℕ) (m : ℕ) (l : List ℕ) (w : Result ℕ MdfError) (out out' b' : List ℕ) (a i : ℕ) (bars : List ℕ)
-    → Prints n b m l w out' b' (node r b out a bars i 0 0 max_levels)
-    → Prints n b m l w out' b' (λ y v. shown (page out a) (render_tree_node r y max_levels root (row_at i b) v))
+pub root_prints : {A : Type 0} {p₀ p : Printer} (h : Same p₀ p) (a : Result A MdfError) (q : lent.Page) (b : List ℕ) (w : Row)
+    → Printing p.n p.blocks.now p.links.now a q b (by_edge p.file.now p.page.now w (edge_of p.bars (max_levels - max_levels) None) max_levels)
+    → Printing p₀.n p.blocks.now p₀.links.now a q b (by_edge p₀.file.now p.page.now w root max_levels)
 unfolding edge_of
-root_prints r n b m l w out out' b' a i bars p = p
+root_prints h a q b w s = as_first h a q b w root max_levels s
 
 -- the loop over the roots: what the rows from i on print is left of the outcome o
-pub record LeftRoots (r : List ℕ) (n m : ℕ) (l b out : List ℕ) (a i : ℕ) (y : Layout) (z : List ℕ) (o : Out Shown) : Type 0 where
+pub record LeftRoots (r : List ℕ) (n : ℕ) (l : List (List ℕ)) (b : List ℕ) (p : lent.Page) (i : ℕ) (y : Layout) (z : List ℕ)
+    (o : Out Shown) : Type 0 where
   pub printed : List ℕ
-  pub holds : Holds n b m l y z printed
-  pub is : o ≡ shown (page out a) (roots r y (drop i y.blocks) printed)
+  pub holds : Holds n b l y z printed
+  pub is : o ≡ shown (pg p) (roots r y (drop i y.blocks) printed)
 
-pub record Rooting (r : List ℕ) (n m : ℕ) (l b₀ out₀ b out : List ℕ) (a i : ℕ) : Type 0 where
+pub record Rooting (r : List ℕ) (n : ℕ) (l : List (List ℕ)) (b₀ : List ℕ) (p₀ : lent.Page) (b : List ℕ) (p : lent.Page) (i : ℕ) : Type 0 where
   pub same : (j : ℕ) → row_at j b ≡ row_at j b₀
-  pub left : (y : Layout) (z v : List ℕ) → Holds n b₀ m l y z v → LeftRoots r n m l b out a i y z (shown (page out₀ 0) (roots r y y.blocks v))
+  pub left : (y : Layout) (z v : List ℕ) → Holds n b₀ l y z v → LeftRoots r n l b p i y z (shown (pg p₀) (roots r y y.blocks v))
 
-module _ (r : List ℕ) (n m : ℕ) (l b₀ out₀ : List ℕ) where
-  pub rooting : Rooting r n m l b₀ out₀ b₀ out₀ 0 0
+module _ (r : List ℕ) (n : ℕ) (l : List (List ℕ)) (b₀ : List ℕ) (p₀ : lent.Page) where
+  pub rooting : Rooting r n l b₀ p₀ b₀ p₀ 0
   rooting = record { same = λ j. refl; left = λ y z v h. record { printed = v; holds = h; is = refl } }
 
-  module _ (b out : List ℕ) (a i : ℕ) (t : Rooting r n m l b₀ out₀ b out a i) where
+  module _ (b : List ℕ) (p : lent.Page) (i : ℕ) (t : Rooting r n l b₀ p₀ b p i) where
     module _ (k : i < n) where
-      rows_from : (y : Layout) (z v : List ℕ) → Holds n b m l y z v → drop i y.blocks ≡ row_at i b ∷ drop (i + 1) y.blocks
+      rows_from : (y : Layout) (z v : List ℕ) → Holds n b l y z v → drop i y.blocks ≡ row_at i b ∷ drop (i + 1) y.blocks
       rows_from y z v h =
           let s : suc i ≡ i + 1 = omega arith in
           drop-cons y.blocks i (row_at i b) (omega (arith, h.count)) ∙ rw (row_held h i (row_at i b) k, s)
 
-      pub root_listed : (get_or b (mark_at i) 0 ≡ 0 → ⊥) → Rooting r n m l b₀ out₀ b out a (i + 1)
+      pub root_listed : (get_or b (mark_at i) 0 ≡ 0 → ⊥) → Rooting r n l b₀ p₀ b p (i + 1)
       root_listed c = record { same = t.same; left = left }
         where
-          left : (y : Layout) (z v : List ℕ) → Holds n b₀ m l y z v → LeftRoots r n m l b out a (i + 1) y z (shown (page out₀ 0) (roots r y y.blocks v))
+          left : (y : Layout) (z v : List ℕ) → Holds n b₀ l y z v → LeftRoots r n l b p (i + 1) y z (shown (pg p₀) (roots r y y.blocks v))
           left y z v h =
               let s = t.left y z v h in
               let e : elem (row_at i b).off s.printed ≡ true = bit_true (elem (row_at i b).off s.printed) (λ x. c (mark_held s.holds i k ∙ x)) in
               record {
                 printed = s.printed;
                 holds = s.holds;
-                is = s.is ∙ rw (rows_from y z s.printed s.holds) (root_again r y (row_at i b) (drop (i + 1) y.blocks) s.printed (page out a) e);
+                is = s.is ∙ rw (rows_from y z s.printed s.holds) (root_again r y (row_at i b) (drop (i + 1) y.blocks) s.printed (pg p) e);
               }
 
-      module _ (c : get_or b (mark_at i) 0 ≡ 0) (w : Result ℕ MdfError) (out' b' : List ℕ) (p : Prints n b m l w out' b' (λ y v. shown (page out a) (render_tree_node r y max_levels root (row_at i b) v))) where
-        begun : (y : Layout) (z v : List ℕ) → Holds n b m l y z v
-            → shown (page out a) (roots r y (drop i y.blocks) v)
-            ≡ and_then (shown (page out a) (render_tree_node r y max_levels root (row_at i b) v)) (λ q. shown q.0 (roots r y (drop (i + 1) y.blocks) q.1))
+      -- what the root prints
+      abbrev at_root : Layout → List ℕ → Out Shown
+      at_root y v = shown (pg p) (render_tree_node r y max_levels root (row_at i b) v)
+
+      module _ {A : Type 0} (c : get_or b (mark_at i) 0 ≡ 0) (w : Result A MdfError) (p' : lent.Page) (b' : List ℕ)
+          (f : Printing n b l w p' b' at_root) where
+        begun : (y : Layout) (z v : List ℕ) → Holds n b l y z v
+            → shown (pg p) (roots r y (drop i y.blocks) v) ≡ and_then (at_root y v) (λ q. shown q.0 (roots r y (drop (i + 1) y.blocks) q.1))
         begun y z v h =
             let e : elem (row_at i b).off v ≡ false = bit_false (elem (row_at i b).off v) (sym (mark_held h i k) ∙ c) in
-            rw (rows_from y z v h) (root_new r y (row_at i b) (drop (i + 1) y.blocks) v (page out a) e)
+            rw (rows_from y z v h) (root_new r y (row_at i b) (drop (i + 1) y.blocks) v (pg p) e)
 
-        pub root_printed : (a' : ℕ) → w ≡ Ok a' → Rooting r n m l b₀ out₀ b' out' a' (i + 1)
-        root_printed a' e = record { same = λ j. p.same j ∙ t.same j; left = left }
+        pub root_printed : (u : A) → w ≡ Ok u → Rooting r n l b₀ p₀ b' p' (i + 1)
+        root_printed u e = record { same = λ j. f.same j ∙ t.same j; left = left }
           where
-            left : (y : Layout) (z v : List ℕ) → Holds n b₀ m l y z v → LeftRoots r n m l b' out' a' (i + 1) y z (shown (page out₀ 0) (roots r y y.blocks v))
+            left : (y : Layout) (z v : List ℕ) → Holds n b₀ l y z v → LeftRoots r n l b' p' (i + 1) y z (shown (pg p₀) (roots r y y.blocks v))
             left y z v h =
                 let s = t.left y z v h in
-                let g : Went a' out' b' y z (shown (page out a) (render_tree_node r y max_levels root (row_at i b) s.printed)) = rw e at (p.told y z s.printed s.holds) in
+                let g : Went p' b' y z (at_root y s.printed) = rw e at (f.told y z s.printed s.holds) in
                 record {
                   printed = g.printed;
                   holds = record { rows = g.rows; count = s.holds.count; links = s.holds.links; rising = s.holds.rising };
                   is = s.is ∙ begun y z s.printed s.holds ∙ then_ok _ _ _ g.is;
                 }
 
-        pub root_refused : (d : MdfError) → w ≡ Err d → Prints n b₀ m l w out' b' (λ y v. shown (page out₀ 0) (roots r y y.blocks v))
-        root_refused d e = record { told = λ y z v h. rw e (told y z v h); same = λ j. p.same j ∙ t.same j }
+        pub root_refused : (d : MdfError) → w ≡ Err d → Printing {A = A} n b₀ l (Err d) p' b' (λ y v. shown (pg p₀) (roots r y y.blocks v))
+        root_refused d e = record { told = told; same = λ j. f.same j ∙ t.same j }
           where
-            told : (y : Layout) (z v : List ℕ) → Holds n b₀ m l y z v → Stopped d (shown (page out₀ 0) (roots r y y.blocks v))
+            told : (y : Layout) (z v : List ℕ) → Holds n b₀ l y z v → Stopped d (shown (pg p₀) (roots r y y.blocks v))
             told y z v h =
                 let s = t.left y z v h in
-                let g : Stopped d (shown (page out a) (render_tree_node r y max_levels root (row_at i b) s.printed)) = rw e at (p.told y z s.printed s.holds) in
+                let g : Stopped d (at_root y s.printed) = rw e at (f.told y z s.printed s.holds) in
                 record { is = s.is ∙ begun y z s.printed s.holds ∙ then_err _ _ _ g.is }
 
-    pub rooted : n ≤ i → Prints n b₀ m l (Ok a) out b (λ y v. shown (page out₀ 0) (roots r y y.blocks v))
+    pub rooted : {A : Type 0} (u : A) → n ≤ i → Printing n b₀ l (Ok u) p b (λ y v. shown (pg p₀) (roots r y y.blocks v))
     unfolding roots shown emit
-    rooted k = record { told = told; same = t.same }
+    rooted u k = record { told = told; same = t.same }
       where
-        told : (y : Layout) (z v : List ℕ) → Holds n b₀ m l y z v → Went a out b y z (shown (page out₀ 0) (roots r y y.blocks v))
+        told : (y : Layout) (z v : List ℕ) → Holds n b₀ l y z v → Went p b y z (shown (pg p₀) (roots r y y.blocks v))
         told y z v h =
             let s = t.left y z v h in
             let e : drop i y.blocks ≡ [] = drop_of_length-le y.blocks {i = i} (omega (arith, s.holds.count)) in
@@ -287,12 +357,19 @@ unfolding shown
 shown_no p d (ok q) e = let z : ◌≡◌ {A = ℕ} 0 1 = cc in absurd (omega arith)
 shown_no p d (err f) e = cc
 
-pub tree_met : (r : List ℕ) (n : ℕ) (b : List ℕ) (m : ℕ) (l : List ℕ) (q : Result ℕ MdfError) (out out' b' : List ℕ)
-    → Prints n b m l q out' b' (λ y v. shown (page out 0) (roots r y y.blocks v))
-    → (y : Layout) (z : List ℕ) → Holds n b m l y z [] → TreeMet q out out' b' y.blocks z (to_tree r y)
-unfolding to_tree
-tree_met r n b m l (Ok a) out out' b' p y z h =
-    let g = p.told y z [] h in
-    let s = shown_back (page out 0) (page out' a) g.printed (roots r y y.blocks []) g.is in
-    record { text = s.0; printed = g.printed; is = s.1; wrote = record { is = s.2 }; rows = g.rows }
-tree_met r n b m l (Err d) out out' b' p y z h = record { is = shown_no (page out 0) (numbers d) (roots r y y.blocks []) (p.told y z [] h).is }
+module _ {A : Type 0} (r : List ℕ) (n : ℕ) (b : List ℕ) (l : List (List ℕ)) (p : lent.Page) (p' : lent.Page) (b' b'' out out' : List ℕ)
+    (from : p.out.now ≡ out) (start : p.at ≡ 0) (y : Layout) (z : List ℕ) (h : Holds n b l y z []) where
+  pub tree_met : (u : A) (a : ℕ) → Printing n b l (Ok u) p' b' (λ y v. shown (pg p) (roots r y y.blocks v)) → a ≡ p'.at → out' ≡ p'.out.now → b'' ≡ b'
+      → TreeMet (Ok a) out out' b'' y.blocks z (to_tree r y)
+  unfolding to_tree
+  tree_met u a f i e k =
+      let g = f.told y z [] h in
+      let s = shown_back (pg p) (pg p') g.printed (roots r y y.blocks []) g.is in
+      record { text = s.0; printed = g.printed; is = s.1; wrote = record { is = rw (i, e, ← from, ← start) s.2 }; rows = k ∙ g.rows }
+
+  pub tree_refused : (d : MdfError) (q : Result ℕ MdfError) → IsErrAnd q (λ x. x ≡ d)
+      → Printing {A = A} n b l (Err d) p' b' (λ y v. shown (pg p) (roots r y y.blocks v))
+      → TreeMet q out out' b'' y.blocks z (to_tree r y)
+  unfolding to_tree
+  tree_refused d (Ok u) e f = absurd e
+  tree_refused d (Err x) e f = record { is = rw e (shown_no (pg p) (numbers d) (roots r y y.blocks []) (f.told y z [] h).is) }

@@ -1,15 +1,11 @@
--- The prefix of a line as the code has it: a byte for each node above but the root, 1 where it was the last of its siblings.
-use Rattle.std.specs.Prelude.{Bool, List, map, ℕ, zero, suc, eqb, get_or, take}
+-- The prefix of a line as the code has it: a bar for each node above but the root, true where it was the last of its siblings.
+use Rattle.std.specs.Prelude.{Bool, false, List, Option, Some, None, ℕ, zero, suc, get_or, take}
 use Rattle.mdf4.specs.Tree.{Edge, root, edge}
-use Rattle.tables.specs.Rows.{kind_of}
+use Rattle.blocks.specs.Kind.{kind_named}
+use Rattle.to_tree.specs.declared.line.Edge as link
 
-unfoldable pub flag : ℕ → Bool
-flag x = eqb x 1
-
-unfoldable pub flags : List ℕ → List Bool
-flags xs = map flag xs
-
--- of a node `depth` below its root, the last of the bars is its own
-unfoldable pub edge_of : List ℕ → ℕ → ℕ → ℕ → Edge
-edge_of bars zero kind place = root
-edge_of bars (suc depth) kind place = edge (flags (take depth bars)) (flag (get_or bars depth 0)) (kind_of kind) place
+-- of a node `depth` below its root, to which the link e leads: the last of the bars is its own
+unfoldable pub edge_of : List Bool → ℕ → Option link.Edge → Edge
+edge_of bars zero e = root
+edge_of bars (suc depth) None = root
+edge_of bars (suc depth) (Some e) = edge (take depth bars) (get_or bars depth false) (kind_named e.kind) e.place

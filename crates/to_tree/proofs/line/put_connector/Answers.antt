@@ -1,9 +1,11 @@
--- `to_tree::line::put_connector` meets its contract. Assumes nothing.
-use Rattle.to_tree.proofs.Lines.{wrote_connector_last, wrote_connector_more}
+-- `put_connector` meets its contract: the connector of a last sibling or of another.
+use Rattle.mdf4.specs.Tree.{connector}
 use Rattle.to_tree.proofs.line.put_connector.Goals as goal
 
-pub returns-then-last-eq1 : goal.returns-then-last-eq1
-returns-then-last-eq1 c = wrote_connector_last _ c.if-last-eq1.true c.put_bytes.ensures
+pub returns-then-last : goal.returns-then-last
+unfolding connector
+returns-then-last c = rw c.if-last.true c.put_bytes.ensures
 
-pub returns : goal.returns
-returns c = wrote_connector_more _ c.if-last-eq1.false c.put_bytes-2.ensures
+pub returns-else-last : goal.returns-else-last
+unfolding connector
+returns-else-last c = rw c.if-last.false c.put_bytes-else-last.ensures

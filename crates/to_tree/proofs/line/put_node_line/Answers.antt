@@ -1,14 +1,12 @@
--- `to_tree::line::put_node_line` meets its contract. Assumes nothing.
-use Rattle.std.proofs.Common.{rules}
+-- `put_node_line` meets its contract: seven texts, one after the other.
 use Rattle.fmt.proofs.Text.{writes_then}
-use Rattle.to_tree.proofs.Lines.{wrote_line}
+use Rattle.mdf4.specs.Tree.{node_line}
+use Rattle.tables.specs.Rows.{row_of}
 use Rattle.to_tree.proofs.line.put_node_line.Goals as goal
 
 pub returns : goal.returns
+unfolding node_line row_of
 returns c =
-    let a = c.args in
-    let w = wrote_line a.file.now c.load-block.result _ _ a.already c.load-block.ensures
-    (writes_then (writes_then (writes_then (writes_then c.put_edge.ensures c.put_mark.ensures) c.put_format.ensures) c.put_description.ensures) c.put_end.ensures) in
-    let name = w.same_reference in
-    let wrote = w.wrote in
-    search rules
+    let head = writes_then (writes_then c.put_edge.ensures c.put_mark.ensures) c.put_format.ensures in
+    writes_then (writes_then (writes_then (writes_then head c.put_description.ensures) c.put_bytes.ensures) c.put_already.ensures)
+    c.put_bytes-2.ensures

@@ -1,18 +1,16 @@
--- `to_tree::search::next_child` meets its contract. The invariant: no link passed leads to a row. Assumes nothing.
-use native.Mathlib.Omega.{arith}
+-- `next_child` meets its contract. The invariant: no link passed leads to a row.
+use Rattle.std.proofs.Common.{rules}
 use Rattle.to_tree.proofs.Searching.{passed_none, passed_one, next_row, next_none}
 use Rattle.to_tree.proofs.search.next_child.Goals as goal
 
-pub loop-i-init : goal.loop-i-init
-loop-i-init c = passed_none _ _ _ _ _ (omega arith)
+pub loop-place-init : goal.loop-place-init
+loop-place-init c = passed_none _ _ _ c.requires
 
-pub returns-then-row-n : goal.returns-then-row-n
-returns-then-row-n c =
-    next_row _ _ _ _ _ _ c.loop-i.invariant _ c.loop-i-test.true c.child_row-row.ensures c.if-row-n.true
+pub loop-place-preserved : goal.loop-place-preserved
+loop-place-preserved c = passed_one _ _ _ _ c.loop-place.invariant c.loop-place-test.true _ (search rules) c.child_row.ensures
 
-pub loop-i-preserved : goal.loop-i-preserved
-loop-i-preserved c =
-    passed_one _ _ _ _ _ _ c.loop-i.invariant _ c.loop-i-test.true c.child_row-row.ensures c.if-row-n.false
+pub returns-in-Some : goal.returns-in-Some
+returns-in-Some c = next_row _ _ _ _ c.loop-place.invariant c.loop-place-test.true _ _ c.in-Some.is c.child_row.ensures
 
 pub returns : goal.returns
-returns c = next_none _ _ _ _ _ _ c.loop-i.invariant c.loop-i-test.false _
+returns c = next_none _ _ _ _ c.loop-place-test.false c.loop-place.invariant
