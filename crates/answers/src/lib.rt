@@ -5,11 +5,12 @@ ghost use Rattle.std.specs.Prelude.{◌≡◌, List, ℕ, length, replicate};
 ghost use Rattle.fmt.specs.Text.{Wrote};
 ghost use Rattle.mdf4.specs.Layout.{Layout};
 ghost use Rattle.mdf4.specs.Answers.{Lent, fitted, exit};
-ghost use Rattle.file_layout.specs.Tables.{Filled};
-ghost use Rattle.answers.specs.Entries.{left, Long, Fits, Ends, Settled};
+ghost use Rattle.file_layout.specs.Tables.{Filled, Keeps};
+ghost use Rattle.file_layout.specs.declared.LentTables.{LentTables};
+ghost use Rattle.answers.specs.Entries.{Fits, Ends, Settled};
 
 use blocks::error::MdfError;
-use file_layout::{Rows, zero_tables};
+use file_layout::{LentTables, Rows};
 
 // What an entry answers where it accepts: the rows of each table and the bytes of the output in use; of the preview the number of its
 // counts, in `bytes`, and their total, which is 0 of any other entry.
@@ -20,20 +21,18 @@ pub struct Accepted {
     pub total: u64,
 }
 
-// How every entry ends: a refusal leaves the tables and the output zero. They stay apart, as C lends them one by one.
+// How every entry ends: a refusal leaves the tables and the output zero.
 pub fn settle(
     answer: Result<Accepted, MdfError>,
-    visited: &mut [u64],
-    blocks: &mut [u64],
-    links: &mut [u64],
-    gaps: &mut [u64],
+    tables: &mut LentTables<'_>,
     output: &mut [u8],
 ) -> Result<Accepted, MdfError>
     ensures answer { result ≡ answer }
-    ensures settled { Settled answer visited.old blocks.old links.old gaps.old output.old visited.new blocks.new links.new gaps.new output.new }
+    ensures settled { Settled answer tables.old output.old tables.new output.new }
+    ensures keeps { Keeps tables.old tables.new }
 {
     if answer.is_err() {
-        zero_tables(visited, blocks, links, gaps);
+        tables.zero();
         output.fill(0);
     }
     answer
@@ -42,7 +41,7 @@ pub fn settle(
 // How the entries with an output of bytes go on behind their text, of which `bytes` bytes were to be written. They fit, or it is refusal
 // 14.
 pub fn fit(rows: Rows, bytes: usize, out: &[u8]) -> Result<Accepted, MdfError>
-    ensures exit { (n : Lent) (y : Layout) (p t v b l g : List ℕ) → Filled n y p rows.visited rows.blocks rows.links rows.gaps v b l g → length out.now ≡ n.out → Wrote (replicate n.out 0) 0 t out.now bytes → Ends n (exit n (fitted n.out y p t)) result v b l g out.now }
+    ensures exit { (n : Lent) (y : Layout) (p t : List ℕ) (tables : LentTables) → Filled n y p rows tables → length out.now ≡ n.out → Wrote (replicate n.out 0) 0 t out.now bytes → Ends n (exit n (fitted n.out y p t)) result tables out.now }
     ensures fits { Fits result (length out.now) }
 {
     let lent = out.len();

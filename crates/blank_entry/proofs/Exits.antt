@@ -3,13 +3,16 @@ use mathlib.Core.Path.{◌≡◌, sym, ◌∙◌}
 use mathlib.Core.List.{List, []}
 use Prim.Native.Nat.{ℕ, ◌-◌}
 use lib.ListN.{replicate}
+use Rattle.std.specs.Prelude.{Ok}
 use Rattle.mdf4.specs.Act.{Refusal, ok, err, and_then}
 use Rattle.mdf4.specs.Layout.{Layout}
 use Rattle.mdf4.specs.Clear.{clear_ranges}
 use Rattle.mdf4.specs.Blank.{zeroed}
 use Rattle.mdf4.specs.Answers.{Lent, made, filled, exit, clearable, blank_made, blank_exit, blanked, blank_recording}
+use Rattle.file_layout.specs.declared.LentTables.{LentTables}
 use Rattle.clear_layout.specs.Clearable.{Stands}
-use Rattle.answers.specs.Entries.{exit_with}
+use Rattle.clear_layout.specs.declared.Clearable.{Clearable}
+use Rattle.answers.specs.Entries.{left_in}
 use Rattle.answers.proofs.Exits.{accepted_exit}
 
 module _ (n : Lent) (r : List ℕ) where
@@ -29,9 +32,9 @@ module _ (n : Lent) (r : List ℕ) where
   unfolding blank_recording blanked
   blank_zeroed y h = rw h
 
-pub blank_accepted : {n : Lent} {r : List ℕ} {nv nb nl ng k : ℕ} {v b l g s : List ℕ} (t : Stands n r nv nb nl ng k v b l g s) → n.out ≡ 0
-    → exit_with (ok (record { visited = nv; blocks = nb; links = nl; gaps = ng; bytes = 0; total = 0 })) v b l g (replicate n.scratch 0) [] ≡ blank_exit n r
+pub blank_accepted : {n : Lent} {r s : List ℕ} {x : Clearable} {t : LentTables} → Stands n r x t s → n.out ≡ 0
+    → left_in (Ok (record { rows = x.rows; bytes = 0; total = 0 })) t (replicate n.scratch 0) [] ≡ blank_exit n r
 unfolding filled
-blank_accepted {n} {r} t e =
-    let z : replicate {A = ℕ} (n.out - 0) 0 ≡ [] = rw e in
-    rw z at (accepted_exit n (made t.layout [] []) t.fills) ∙ sym (blank_made_of n r t.layout t.is)
+blank_accepted {n} {r} z e =
+    let none : replicate {A = ℕ} (n.out - 0) 0 ≡ [] = rw e in
+    rw none at (accepted_exit n (made z.layout [] []) z.fills) ∙ sym (blank_made_of n r z.layout z.is)

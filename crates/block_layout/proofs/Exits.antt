@@ -1,26 +1,32 @@
 -- The exits of layout, listing and tree, from what their parts answer. Assumes nothing.
 use mathlib.Core.Path.{◌≡◌}
 use mathlib.Core.List.{List, []}
-use Prim.Native.Nat.{ℕ}
+use Prim.Native.Nat.{ℕ, ◌-◌}
+use lib.ListN.{replicate}
+use Rattle.std.specs.Prelude.{Ok}
 use Rattle.mdf4.specs.Act.{Refusal, ok, err, and_then}
 use Rattle.mdf4.specs.Layout.{Layout}
 use Rattle.mdf4.specs.Listing.{to_text}
 use Rattle.mdf4.specs.Tree.{to_tree}
-use Rattle.mdf4.specs.Answers.{Lent, made, filled, exit, laid, fitted, layout_made, layout_exit, to_text_made, to_text_exit, to_tree_made, to_tree_exit}
-use Rattle.file_layout.specs.Tables.{lent, Stands}
-use Rattle.answers.specs.Entries.{exit_with}
+use Rattle.mdf4.specs.Answers.{Lent, made, filled, exit, laid, fitted}
+use Rattle.mdf4.specs.Answers.{layout_made, layout_exit, to_text_made, to_text_exit, to_tree_made, to_tree_exit}
+use Rattle.file_layout.specs.Tables.{Stands}
+use Rattle.file_layout.specs.declared.LentTables.{LentTables}
+use Rattle.file_layout.specs.declared.Rows.{Rows}
+use Rattle.answers.specs.Entries.{left_in}
 use Rattle.answers.proofs.Exits.{accepted_exit}
 
--- the exits of `layout`
-module _ (v b l g r : List ℕ) where
-  pub layout_accepted : {nv nb nl ng : ℕ} {v1 b1 l1 g1 : List ℕ} → Stands (ok tt) (lent v b l g 0 0) r nv nb nl ng v1 b1 l1 g1
-      → exit_with (ok (record { visited = nv; blocks = nb; links = nl; gaps = ng; bytes = 0; total = 0 })) v1 b1 l1 g1 [] [] ≡ layout_exit (lent v b l g 0 0) r
-  unfolding layout_exit layout_made and_then filled
-  layout_accepted s = rw s.is (accepted_exit (lent v b l g 0 0) (made s.layout [] []) s.fills)
+-- the exits of `layout`, which is lent no output
+pub layout_accepted : {n : Lent} {r : List ℕ} {x : Rows} {t : LentTables} → n.out ≡ 0 → Stands (ok tt) n r x t
+    → left_in (Ok (record { rows = x; bytes = 0; total = 0 })) t (replicate n.scratch 0) [] ≡ layout_exit n r
+unfolding layout_exit layout_made and_then filled
+layout_accepted {n} e s =
+    let none : replicate {A = ℕ} (n.out - 0) 0 ≡ [] = rw e in
+    rw s.is (rw none at (accepted_exit n (made s.layout [] []) s.fills))
 
-  pub layout_refused : (e : Refusal) → laid (lent v b l g 0 0) r ≡ err e → layout_exit (lent v b l g 0 0) r ≡ exit (lent v b l g 0 0) (err e)
-  unfolding layout_exit layout_made and_then
-  layout_refused e h = rw h
+pub layout_refused : (n : Lent) (r : List ℕ) (e : Refusal) → laid n r ≡ err e → layout_exit n r ≡ exit n (err e)
+unfolding layout_exit layout_made and_then
+layout_refused n r e h = rw h
 
 -- the exits of `to_text`
 module _ (n : Lent) (r : List ℕ) where

@@ -1,7 +1,7 @@
 -- Demand 3 of the entries, in its order, and what document 02's orders add. A call takes the recording r and lends tables and
 -- output of the lengths n; it answers a and leaves the words and bytes v, b, l, g, s and o, which `left` puts together. The hypothesis
--- on a call is its contract word for word (src/lib.rt here and in list_entry, blank_entry and preview_entry), so what stands here holds of every call.
--- Where an entry takes no scratch table or no output, s or o is []; the preview's output is its counts.
+-- on a call is its contract word for word (src/lib.rt here and in list_entry, blank_entry and preview_entry), so what stands here
+-- holds of every call. Where an entry takes no scratch table or no output, s or o is []; the preview's output is its counts.
 use mathlib.Core.Path.{◌≡◌, refl, sym, ap, ◌∙◌}
 use mathlib.Core.List.{List, []}
 use Prim.Native.Nat.{ℕ}
@@ -12,7 +12,8 @@ use Rattle.mdf4.specs.Act.{Refusal, Out, ok, err}
 use Rattle.mdf4.specs.Clear.{clr_bytes}
 use Rattle.mdf4.specs.Blank.{zeroed}
 use Rattle.mdf4.specs.Answers as definition
-use Rattle.mdf4.specs.Answers.{Lent, Counts, Exit, Made, layout_exit, to_text_exit, to_tree_exit, clear_list_exit, blank_exit, preview_exit, blank_recording}
+use Rattle.mdf4.specs.Answers.{Lent, Counts, Exit, Made}
+use Rattle.mdf4.specs.Answers.{layout_exit, to_text_exit, to_tree_exit, clear_list_exit, blank_exit, preview_exit, blank_recording}
 use Rattle.mdf4.specs.Demand3.{Alike, Again, Tables, Cleared, Finalizing, Unasked}
 use Rattle.mdf4.specs.Blanked.{Blanks, Previews, After, untotalled, uncounted, preview_uncounted}
 use Rattle.mdf4.proofs.Results.{never}
@@ -131,7 +132,8 @@ told : (a : Answer) (v b l g s o : List ℕ) {x : Exit} → left a v b l g s o �
 told a v b l g s o p = ap (λ (x : Exit). x.answer) (sym p) ∙ answer_is a v b l g s o
 
 -- Document 02, order 5. A call of the blanker takes the recording r and leaves r'.
-module _ (n : Lent) (r r' : List ℕ) (a : Answer) (v b l g s : List ℕ) (exit : left a v b l g s [] ≡ blank_exit n r) (recording : r' ≡ blank_recording n r) where
+module _ (n : Lent) (r r' : List ℕ) (a : Answer) (v b l g s : List ℕ)
+    (exit : left a v b l g s [] ≡ blank_exit n r) (recording : r' ≡ blank_recording n r) where
   -- A refused call leaves the recording as it was.
   pub blank_untouched : (z : Refusal) → answered a ≡ err z → r' ≡ r
   blank_untouched z e = recording ∙ (blanked.untouched).same n r z (told a v b l g s [] exit ∙ e)
@@ -160,7 +162,8 @@ module _ (n : Lent) (r r' : List ℕ) (a : Answer) (v b l g s : List ℕ) (exit 
 
       -- A preview of r showed it (`Previews`): a count is the number of bytes of its range at which r' differs from r, the total that of
       -- the whole recording.
-      pub preview_shows : left a1 v1 b1 l1 g1 s1 o1 ≡ preview_exit n' r → (c1 : Counts) → answered a1 ≡ ok c1 → Previews n' r r' (left a1 v1 b1 l1 g1 s1 o1) c1
+      pub preview_shows : left a1 v1 b1 l1 g1 s1 o1 ≡ preview_exit n' r → (c1 : Counts) → answered a1 ≡ ok c1
+          → Previews n' r r' (left a1 v1 b1 l1 g1 s1 o1) c1
       preview_shows p c1 e = rw (recording, p) (blanked.previews n' n r c1 c (told a1 v1 b1 l1 g1 s1 o1 p ∙ e) ok_is)
 
       -- A preview of r' counts 0 throughout.
@@ -216,7 +219,8 @@ unfolding tables_only blank_exit definition.blank_made definition.clearable defi
 blank_answer n r = exit_answer n (tables_only n) (definition.blank_made n r)
 
 -- Where a preview is accepted, so is the blanker, lent tables of the same lengths.
-pub preview_then_blank : (n : Lent) (r : List ℕ) (a : Answer) (v b l g s o : List ℕ) (c : Counts) → answered a ≡ ok c → left a v b l g s o ≡ preview_exit n r
+pub preview_then_blank : (n : Lent) (r : List ℕ) (a : Answer) (v b l g s o : List ℕ) (c : Counts) → answered a ≡ ok c
+    → left a v b l g s o ≡ preview_exit n r
     → (a' : Answer) (v' b' l' g' s' : List ℕ) → left a' v' b' l' g' s' [] ≡ blank_exit (tables_only n) r → (c' : Counts) × (answered a' ≡ ok c')
 preview_then_blank n r a v b l g s o c e p a' v' b' l' g' s' q =
     let z = (blanked.shown_first).accepts n r c (told a v b l g s o p ∙ e) in

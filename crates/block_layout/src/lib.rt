@@ -5,30 +5,26 @@
 ghost use Rattle.std.specs.Prelude.{◌≡◌, [], length};
 ghost use Rattle.mdf4.specs.Answers.{layout_exit, to_text_exit, to_tree_exit};
 ghost use Rattle.answers.specs.Entries.{left, Ends, Fits};
-ghost use Rattle.file_layout.specs.Tables.{lent};
+ghost use Rattle.file_layout.specs.Tables.{lent, lent_by, Keeps};
 
 pub use answers::Accepted;
 use answers::{fit, settle};
 pub use blank_entry::blank;
 use blocks::error::MdfError;
+use file_layout::LentTables;
 pub use file_layout::Rows;
-use file_layout::lay;
 pub use list_entry::clear_list;
 pub use preview_entry::preview;
+use tables::first_rows;
 use to_text::put_text;
 use to_tree::put_tree;
 
 // The layout. A refusal leaves the tables free.
-fn lay_out(
-    data: &[u8],
-    visited: &mut [u64],
-    blocks: &mut [u64],
-    links: &mut [u64],
-    gaps: &mut [u64],
-) -> Result<Accepted, MdfError>
-    ensures { Ends (lent visited.old blocks.old links.old gaps.old 0 0) (layout_exit (lent visited.old blocks.old links.old gaps.old 0 0) «data».now) result visited.new blocks.new links.new gaps.new [] }
+fn lay_out(data: &[u8], tables: &mut LentTables<'_>) -> Result<Accepted, MdfError>
+    ensures exit { let n = lent_by tables.old 0 0 in Ends n (layout_exit n «data».now) result tables.new [] }
+    ensures keeps { Keeps tables.old tables.new }
 {
-    let rows = lay(data, visited, blocks, links, gaps)?;
+    let rows = tables.lay(data)?;
     Ok(Accepted {
         rows,
         bytes: 0,
@@ -46,34 +42,28 @@ pub fn layout(
 ) -> Result<Accepted, MdfError>
     ensures { left result visited.new blocks.new links.new gaps.new [] [] ≡ layout_exit (lent visited.old blocks.old links.old gaps.old 0 0) «data».now }
 {
-    let answer = lay_out(data, visited, blocks, links, gaps);
-    settle(answer, visited, blocks, links, gaps, &mut [])
+    let mut tables = LentTables {
+        visited,
+        blocks,
+        links,
+        gaps,
+    };
+    let answer = lay_out(data, &mut tables);
+    settle(answer, &mut tables, &mut [])
 }
 
 // The listing. A refusal leaves the tables and the output free.
-fn list(
-    data: &[u8],
-    visited: &mut [u64],
-    blocks: &mut [u64],
-    links: &mut [u64],
-    gaps: &mut [u64],
-    out: &mut [u8],
-) -> Result<Accepted, MdfError>
-    ensures exit { Ends (lent visited.old blocks.old links.old gaps.old 0 (length out.old)) (to_text_exit (lent visited.old blocks.old links.old gaps.old 0 (length out.old)) «data».now) result visited.new blocks.new links.new gaps.new out.new }
+fn list(data: &[u8], tables: &mut LentTables<'_>, out: &mut [u8]) -> Result<Accepted, MdfError>
+    ensures exit { let n = lent_by tables.old 0 (length out.old) in Ends n (to_text_exit n «data».now) result tables.new out.new }
     ensures fits { Fits result (length out.old) }
+    ensures keeps { Keeps tables.old tables.new }
 {
     out.fill(0);
-    let rows = lay(data, visited, blocks, links, gaps)?;
-    let bytes = put_text(
-        out,
-        data,
-        blocks,
-        rows.blocks,
-        links,
-        rows.links,
-        gaps,
-        rows.gaps,
-    );
+    let rows = tables.lay(data)?;
+    let blocks = tables.block_rows(rows);
+    let links = tables.link_rows(rows);
+    let gaps = tables.gap_rows(rows);
+    let bytes = put_text(out, data, blocks, links, gaps);
     fit(rows, bytes, out)
 }
 
@@ -89,25 +79,29 @@ pub fn to_text(
     ensures exit { left result visited.new blocks.new links.new gaps.new [] out.new ≡ to_text_exit (lent visited.old blocks.old links.old gaps.old 0 (length out.old)) «data».now }
     ensures fits { Fits result (length out.old) }
 {
-    let answer = list(data, visited, blocks, links, gaps, out);
-    settle(answer, visited, blocks, links, gaps, out)
+    let mut tables = LentTables {
+        visited,
+        blocks,
+        links,
+        gaps,
+    };
+    let answer = list(data, &mut tables, out);
+    settle(answer, &mut tables, out)
 }
 
 // The tree. A refusal leaves the tables and the output free.
-fn draw(
-    data: &[u8],
-    visited: &mut [u64],
-    blocks: &mut [u64],
-    links: &mut [u64],
-    gaps: &mut [u64],
-    out: &mut [u8],
-) -> Result<Accepted, MdfError>
-    ensures exit { Ends (lent visited.old blocks.old links.old gaps.old 0 (length out.old)) (to_tree_exit (lent visited.old blocks.old links.old gaps.old 0 (length out.old)) «data».now) result visited.new blocks.new links.new gaps.new out.new }
+fn draw(data: &[u8], tables: &mut LentTables<'_>, out: &mut [u8]) -> Result<Accepted, MdfError>
+    ensures exit { let n = lent_by tables.old 0 (length out.old) in Ends n (to_tree_exit n «data».now) result tables.new out.new }
     ensures fits { Fits result (length out.old) }
+    ensures keeps { Keeps tables.old tables.new }
 {
     out.fill(0);
-    let rows = lay(data, visited, blocks, links, gaps)?;
-    let bytes = put_tree(data, blocks, rows.blocks, links, rows.links, out)?;
+    let rows = tables.lay(data)?;
+    // Rows of blocks are marked while the links are read: the two are lent apart.
+    let blocks = &mut *tables.blocks;
+    let links = &mut *tables.links;
+    let links = first_rows(links, rows.links);
+    let bytes = put_tree(data, blocks, rows.blocks, links, out)?;
     fit(rows, bytes, out)
 }
 
@@ -123,6 +117,12 @@ pub fn to_tree(
     ensures exit { left result visited.new blocks.new links.new gaps.new [] out.new ≡ to_tree_exit (lent visited.old blocks.old links.old gaps.old 0 (length out.old)) «data».now }
     ensures fits { Fits result (length out.old) }
 {
-    let answer = draw(data, visited, blocks, links, gaps, out);
-    settle(answer, visited, blocks, links, gaps, out)
+    let mut tables = LentTables {
+        visited,
+        blocks,
+        links,
+        gaps,
+    };
+    let answer = draw(data, &mut tables, out);
+    settle(answer, &mut tables, out)
 }

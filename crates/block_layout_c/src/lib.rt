@@ -15,7 +15,7 @@ use blocks::error::MdfError;
 const ANSWER_WORDS: usize = 10;
 
 // The words of an answer: number (0 where it is accepted), place, a and b; then the rows of the visited, block, link and gap tables
-// and the bytes of the output in use, or the number of the preview's counts, and the counts' total.
+// and the bytes of the output in use, or the number of the preview's counts, and the counts' total. C is lent them as words.
 fn words_of(answer: Result<Accepted, MdfError>) -> [u64; 10]
     ensures { result ≡ answer_words (answered answer) }
 {

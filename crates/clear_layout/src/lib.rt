@@ -3,12 +3,12 @@
 #![tactic(auto)]
 
 ghost use Rattle.std.specs.Prelude.{ℕ, length};
-ghost use Rattle.file_layout.specs.Tables.{lent};
+ghost use Rattle.file_layout.specs.Tables.{lent_by, Keeps};
 ghost use Rattle.clear_layout.specs.Clearable.{ClearableMet};
 
 use blocks::error::MdfError;
 use clear_ranges::sort_spared;
-use file_layout::{Rows, lay_finalized};
+use file_layout::{LentTables, Rows};
 
 // The rows in use of each table, those of the scratch table last.
 #[derive(Clone, Copy, Debug, PartialEq, Eq)]
@@ -20,16 +20,16 @@ pub struct Clearable {
 // A refusal leaves all tables free.
 pub fn lay_clear(
     data: &[u8],
-    visited: &mut [u64],
-    blocks: &mut [u64],
-    links: &mut [u64],
-    gaps: &mut [u64],
+    tables: &mut LentTables<'_>,
     scratch: &mut [u64],
 ) -> Result<Clearable, MdfError>
-    ensures { (out : ℕ) → ClearableMet (lent visited.old blocks.old links.old gaps.old (length scratch.old) out) «data».now result visited.new blocks.new links.new gaps.new scratch.new }
+    ensures cleared { (out : ℕ) → ClearableMet (lent_by tables.old (length scratch.old) out) «data».now result tables.new scratch.new }
+    ensures keeps { Keeps tables.old tables.new }
 {
-    let rows = lay_finalized(data, visited, blocks, links, gaps)?;
-    let spared = sort_spared(data, blocks, rows.blocks, links, rows.links, scratch)?;
+    let rows = tables.lay_finalized(data)?;
+    let blocks = tables.block_rows(rows);
+    let links = tables.link_rows(rows);
+    let spared = sort_spared(data, blocks, links, scratch)?;
     Ok(Clearable {
         rows,
         scratch: spared,

@@ -13,6 +13,7 @@ module _ (n : Lent) (r : List ℕ) where
   unfolding clear_list_exit clear_list_made and_then
   clear_list_refused e h = rw h
 
-  pub clear_list_made_of : (y : Layout) → clearable n r ≡ ok y → clear_list_exit n r ≡ exit n (fitted n.out y [] (clr_bytes (length r) (clear_ranges r y)))
+  pub clear_list_made_of : (y : Layout) → clearable n r ≡ ok y
+      → clear_list_exit n r ≡ exit n (fitted n.out y [] (clr_bytes (length r) (clear_ranges r y)))
   unfolding clear_list_exit clear_list_made and_then
   clear_list_made_of y h = rw h

@@ -1,20 +1,28 @@
 -- The exits of the preview, from what its parts answer. Assumes nothing.
-use mathlib.Core.Path.{◌≡◌, sym, ap, ◌∙◌}
+use mathlib.Core.Path.{◌≡◌, sym, ◌∙◌}
 use mathlib.Core.List.{List, ◌++◌, map}
 use Prim.Native.Nat.{ℕ, ◌-◌, ◌≤◌, ◌<◌}
 use native.Mathlib.Omega.{arith}
 use lib.ListN.{length, replicate, length-map}
 use borrow.Author.Tests.{le-leb, lt-leb}
+use Rattle.std.specs.Prelude.{Ok}
+use Rattle.std.specs.Iterator.{Drains, YieldsFirstBy}
+use Rattle.std.specs.declared.ops.Range as ops
+use Rattle.std.proofs.lemmas.Iterator.Consumers.{count_from_yields_List, YieldsList-from_first}
 use Rattle.fmt.proofs.Room.{drop_replicate}
+use Rattle.mdf4.specs.Bytes.{Range}
 use Rattle.mdf4.specs.Act.{Refusal, refusal, ok, err, and_then, check}
-use Rattle.mdf4.specs.Layout.{compute_gaps, Layout}
+use Rattle.mdf4.specs.Layout.{Layout}
 use Rattle.mdf4.specs.Clear.{clear_ranges}
 use Rattle.mdf4.specs.Blank.{nonzero}
 use Rattle.mdf4.specs.Answers.{Lent, filled, exit, room, clearable, counted, preview_made, preview_exit}
-use Rattle.mdf4.specs.Demand3.{ranges_in}
+use Rattle.tables.specs.Gaps.{bounds, gaps_left}
+use Rattle.tables.specs.declared.Gaps.{Gaps}
+use Rattle.file_layout.specs.declared.LentTables.{LentTables}
 use Rattle.clear_layout.specs.Clearable.{Stands}
+use Rattle.clear_layout.specs.declared.Clearable.{Clearable}
 use Rattle.blanking.specs.Counts.{Counted}
-use Rattle.answers.specs.Entries.{exit_with}
+use Rattle.answers.specs.Entries.{left_in}
 use Rattle.answers.proofs.Exits.{accepted_exit}
 
 module _ (n : Lent) (r : List ℕ) where
@@ -32,16 +40,19 @@ module _ (n : Lent) (r : List ℕ) where
     unfolding preview_exit preview_made and_then room check
     counts_made_of l = rw (h, le-leb (length (clear_ranges r y)) n.out l)
 
-module _ {n : Lent} {r : List ℕ} {nv nb nl ng k : ℕ} {v b l g s : List ℕ} (t : Stands n r nv nb nl ng k v b l g s) where
-  pub counts_accepted : {j total : ℕ} {o : List ℕ} → j ≡ length (clear_ranges r t.layout) → j ≤ n.out
-      → Counted r (clear_ranges r t.layout) (replicate n.out 0) o total
-      → exit_with (ok (record { visited = nv; blocks = nb; links = nl; gaps = ng; bytes = j; total = total })) v b l g (replicate n.scratch 0) o ≡ preview_exit n r
+module _ {n : Lent} {r s : List ℕ} {x : Clearable} {t : LentTables} (z : Stands n r x t s) where
+  pub counts_accepted : {j total : ℕ} {o : List ℕ} → j ≡ length (clear_ranges r z.layout) → j ≤ n.out
+      → Counted r (clear_ranges r z.layout) (replicate n.out 0) o total
+      → left_in (Ok (record { rows = x.rows; bytes = j; total = total })) t (replicate n.scratch 0) o ≡ preview_exit n r
   unfolding filled counted
   counts_accepted {j} {total} {o} e h c =
-      let ps = clear_ranges r t.layout in
+      let ps = clear_ranges r z.layout in
       let f = nonzero r in
       let q : o ≡ map f ps ++ replicate (n.out - length (map f ps)) 0 = c.counts ∙ rw (drop_replicate (length ps) n.out 0, length-map ps f) in
-      rw (e, q, c.sum_is, ← length-map ps f) (accepted_exit n (counted t.layout (map f ps)) t.fills) ∙ sym (counts_made_of n r t.layout t.is (omega arith))
+      rw (e, q, c.sum_is, ← length-map ps f) (accepted_exit n (counted z.layout (map f ps)) z.fills)
+      ∙ sym (counts_made_of n r z.layout z.is (omega arith))
 
-  pub counts_needed : {j : ℕ} → j ≡ length (compute_gaps (length r) 0 (ranges_in 2 k s)) → j ≡ length (clear_ranges r t.layout)
-  counts_needed e = e ∙ ap length t.leaves.are
+-- how many gaps an iterator over them counts
+pub gaps_counted : {W k : ℕ} {g : Gaps W} {ps : List Range} → gaps_left g ≡ ps
+    → ((rs : List (ops.Range ℕ)) × Drains (YieldsFirstBy bounds gaps_left) g rs × (k ≡ length rs)) → k ≡ length ps
+gaps_counted {g = g} e ran = count_from_yields_List g _ ran (YieldsList-from_first bounds gaps_left _ e)

@@ -4,31 +4,31 @@
 ghost use Rattle.std.specs.Prelude.{◌≡◌, length, replicate, OnErr};
 ghost use Rattle.mdf4.specs.Answers.{preview_exit};
 ghost use Rattle.answers.specs.Entries.{left, Ends, Fits};
-ghost use Rattle.file_layout.specs.Tables.{lent};
+ghost use Rattle.file_layout.specs.Tables.{lent, lent_by, Keeps};
 
 use answers::{Accepted, settle};
 use blanking::put_counts;
 use blocks::error::MdfError;
 use clear_layout::lay_clear;
-use clear_ranges::count_ranges;
+use file_layout::LentTables;
+use tables::{Gaps, first_rows};
 
 // The preview. A refusal leaves the counts zero, and the tables and the scratch table free.
 fn preview_counts(
     data: &[u8],
-    visited: &mut [u64],
-    blocks: &mut [u64],
-    links: &mut [u64],
-    gaps: &mut [u64],
+    tables: &mut LentTables<'_>,
     scratch: &mut [u64],
     counts: &mut [u64],
 ) -> Result<Accepted, MdfError>
-    ensures exit { Ends (lent visited.old blocks.old links.old gaps.old (length scratch.old) (length counts.old)) (preview_exit (lent visited.old blocks.old links.old gaps.old (length scratch.old) (length counts.old)) «data».now) result visited.new blocks.new links.new gaps.new counts.new }
+    ensures exit { let n = lent_by tables.old (length scratch.old) (length counts.old) in Ends n (preview_exit n «data».now) result tables.new counts.new }
     ensures refused { OnErr result (counts.new ≡ replicate (length counts.old) 0) }
     ensures fits { Fits result (length counts.old) }
+    ensures keeps { Keeps tables.old tables.new }
 {
     counts.fill(0);
-    let cleared = lay_clear(data, visited, blocks, links, gaps, scratch)?;
-    let needed = count_ranges(scratch, cleared.scratch, data.len() as u64);
+    let cleared = lay_clear(data, tables, scratch)?;
+    let spared = first_rows(scratch, cleared.scratch);
+    let needed = Gaps::new(spared, data.len() as u64).count();
     let lent = counts.len();
     if lent < needed {
         return Err(MdfError::TableTooShort {
@@ -36,7 +36,7 @@ fn preview_counts(
             needed: needed as u64,
         });
     }
-    let total = put_counts(data, scratch, cleared.scratch, counts);
+    let total = put_counts(data, spared, counts);
     Ok(Accepted {
         rows: cleared.rows,
         bytes: needed,
@@ -58,7 +58,13 @@ pub fn preview(
     ensures exit { left result visited.new blocks.new links.new gaps.new scratch.new counts.new ≡ preview_exit (lent visited.old blocks.old links.old gaps.old (length scratch.old) (length counts.old)) «data».now }
     ensures fits { Fits result (length counts.old) }
 {
-    let answer = preview_counts(data, visited, blocks, links, gaps, scratch, counts);
+    let mut tables = LentTables {
+        visited,
+        blocks,
+        links,
+        gaps,
+    };
+    let answer = preview_counts(data, &mut tables, scratch, counts);
     scratch.fill(0);
-    settle(answer, visited, blocks, links, gaps, &mut [])
+    settle(answer, &mut tables, &mut [])
 }

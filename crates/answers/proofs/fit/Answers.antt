@@ -8,7 +8,7 @@ use Rattle.answers.proofs.fit.Goals as goal
 
 pub returns-then-lent-bytes : goal.returns-then-lent-bytes
 returns-then-lent-bytes c = record {
-  exit = λ n y p t v b l g f k w.
+  exit = λ n y p t tables f k w.
       let small : n.out + 1 < 2 ^ 64 = omega arith in
       record { is = rw k (sym (ap (exit n) (fit_refused n y p t small w (omega arith)))) };
   fits = record { is = tt };
@@ -16,7 +16,7 @@ returns-then-lent-bytes c = record {
 
 pub returns : goal.returns
 returns c = record {
-  exit = λ n y p t v b l g f k w.
+  exit = λ n y p t tables f k w.
       let small : n.out + 1 < 2 ^ 64 = omega arith in
       record { is = fit_accepted n y p t small w (omega arith) f };
   fits = record { is = omega arith };

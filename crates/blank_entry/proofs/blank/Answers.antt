@@ -1,16 +1,17 @@
 -- `blank` meets its contract: the scratch table is zeroed behind it, and a refusal zeroes all. Assumes nothing.
 use mathlib.Core.Path.{refl}
-use mathlib.Core.List.{[]}
 use borrow.Author.Rules.{rules}
 use lib.ListN.{length}
 use Rattle.file_layout.specs.Tables.{lent}
-use Rattle.answers.proofs.Exits.{settled_counts}
+use Rattle.answers.proofs.Exits.{keeps_then, long, settled_counts, left_behind}
 use Rattle.blank_entry.proofs.blank.Goals as goal
 
 pub returns-clause-exit : goal.returns-clause-exit
 returns-clause-exit c =
     let a = c.args in
     let n = lent a.visited.now a.blocks.now a.links.now a.gaps.now (length a.scratch.now) 0 in
-    let k = c.blank_ranges-answer.auto in
-    let e = settled_counts n _ (record { visited = k.visited; blocks = k.blocks; links = k.links; gaps = k.gaps; out = refl }) c.blank_ranges-answer.ensures.exit (search rules) c.settle.ensures.settled in
-    rw (c.settle.ensures.answer, c.fill.ensures.after (λ y h. h), k.scratch) e
+    let k = c.blank_ranges-answer in
+    let e = settled_counts n _ (long k.ensures.keeps refl) k.ensures.exit (search rules) c.settle.ensures.settled in
+    let keeps = keeps_then k.ensures.keeps c.settle.ensures.keeps in
+    rw (c.settle.ensures.answer, c.fill.ensures.after (λ y h. h), k.auto.scratch)
+    (left_behind _ _ _ e (search rules) (search rules) (search rules) (search rules))
