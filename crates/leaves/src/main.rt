@@ -20,6 +20,7 @@ struct Record<'a> {
     answer: &'a [u8],
 }
 
+// A bool as Rust prints it: a page has no Display, as it writes bytes into lent memory.
 fn put_bool(page: &mut Page<'_>, b: bool) {
     page.put_bytes(if b { b"true" } else { b"false" });
 }
@@ -34,7 +35,7 @@ fn put_version(page: &mut Page<'_>, text: &[u8]) {
     }
 }
 
-// Texts, by their kind.
+// Texts, by their kind, a number of the records (tools/leaves.rs).
 fn put_text(page: &mut Page<'_>, kind: u8, text: &[u8]) {
     match kind {
         1 => page.put_lossy(text),
@@ -67,10 +68,9 @@ impl Record<'_> {
     fn is_answered(&self) -> bool {
         let mut out = [0u8; 1024];
         let mut page = Page::new(&mut out);
-        if self.kind < 12 {
-            put_text(&mut page, self.kind, self.input);
-        } else {
-            put_number(&mut page, self.kind, self.input);
+        match self.kind {
+            0..=11 => put_text(&mut page, self.kind, self.input),
+            _ => put_number(&mut page, self.kind, self.input),
         }
         let n = page.at;
         out.get(..n) == Some(self.answer)
@@ -102,6 +102,7 @@ fn replay(rt: &impl Print, b: &[u8]) -> io::Result<()> {
     let mut rest = b;
     let mut read: usize = 0;
     let mut differ: usize = 0;
+    // a record says where the next one begins, so no iterator of the library yields them
     while !rest.is_empty() {
         let place = b.len() - rest.len();
         let Some((record, after)) = next(rest) else {

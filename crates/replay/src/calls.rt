@@ -153,6 +153,7 @@ impl Call<'_> {
     }
 }
 
+// A refusal by document 01's number and places: an MdfError would be what is tested.
 fn four(number: u64, place: u64, a: usize, b: usize) -> Refusal {
     Refusal {
         number,

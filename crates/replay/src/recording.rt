@@ -101,7 +101,7 @@ fn words<'a>(head: &[u8; HEAD], b: &'a [u8], i: usize) -> Option<&'a [[u8; 8]]>
     Some(part(head, b, i)?.as_chunks::<8>().0)
 }
 
-// What was recorded: the places of an accepted recording, or the refusal.
+// What was recorded: the places of an accepted recording, or the refusal, whose number is not 0.
 pub(crate) fn recorded(head: &[u8; HEAD]) -> Result<Places, Refusal> {
     let number = read_u64(head, 48);
     let place = read_u64(head, 56);
