@@ -99,7 +99,7 @@ pub struct Refusal {
     pub b: u64,
 }
 
-// A refusal's four numbers in document 01's order.
+// A refusal's four numbers in document 01's order, so that each of the fifteen below is one line.
 fn four(number: u64, place: u64, a: u64, b: u64) -> Refusal
     ensures { refusal_of result ≡ spec.refusal number place a b }
 {

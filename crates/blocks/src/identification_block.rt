@@ -2,7 +2,7 @@
 ghost use Rattle.std.specs.Prelude.{◌≡◌, ◌≤◌, length, IfOk};
 ghost use Rattle.mdf4.specs.Act.{refusal};
 ghost use Rattle.mdf4.specs.Bytes.{bytes};
-ghost use Rattle.mdf4.specs.Version.{before_dot, from_dot, numeral, parse_u16, parse_minor, version};
+ghost use Rattle.mdf4.specs.Version.{before_dot, from_dot, parse_u16, parse_minor, version};
 ghost use Rattle.blocks.specs.Errors.{part_number, told};
 ghost use Rattle.blocks.specs.IdentificationBlock.{version_number, version_of_text, identified, identification_of, identification, identification_read, Parts};
 
@@ -19,35 +19,15 @@ fn split_at_dot(text: &[u8]) -> (&[u8], &[u8])
     text.split_at(dot)
 }
 
-// At least one decimal digit; `part` says which part of the version they are.
-fn digits(text: &[u8], part: VersionPart) -> Result<u16, MdfError>
-    ensures { told result ≡ numeral (refusal 3 8 (part_number part) 0) text.now }
-{
-    if text.is_empty() {
-        return Err(MdfError::InvalidVersionString { part });
-    }
-    let mut sum: u32 = 0;
-    for &b in text {
-        if b < b'0' || b'9' < b {
-            return Err(MdfError::InvalidVersionString { part });
-        }
-        sum = sum * 10 + u32::from(b - b'0');
-        if 0xffff < sum {
-            return Err(MdfError::InvalidVersionString { part });
-        }
-    }
-    Ok(sum as u16)
-}
-
-// As Rust's parse::<u16>: a '+' may stand before the digits.
-#[tactic(auto, using(crate::proofs::Version::parse_plus, crate::proofs::Version::parse_plain))]
+// As Rust's parse::<u16>; `part` says which part of the version the text is. One that is no UTF-8 is no number either.
+#[tactic(auto, using(crate::proofs::Version::parse_ok, crate::proofs::Version::parse_err, crate::proofs::Version::parse_no_text))]
 fn parse_u16(text: &[u8], part: VersionPart) -> Result<u16, MdfError>
     ensures { told result ≡ parse_u16 (refusal 3 8 (part_number part) 0) text.now }
 {
-    match text.strip_prefix(b"+") {
-        Some(rest) => digits(rest, part),
-        None => digits(text, part),
-    }
+    str::from_utf8(text)
+        .ok()
+        .and_then(|t| t.parse().ok())
+        .ok_or(MdfError::InvalidVersionString { part })
 }
 
 // The minor part, of what stands from the first '.' on.

@@ -10,7 +10,7 @@ use crate::common::BlockHeader;
 use crate::error::MdfError;
 use utf8::before_nul;
 
-// All that stands behind a text's header.
+// All that stands behind a text's header. It is no TextBlock: what the two kinds cut off it differs.
 #[derive(Clone, Copy)]
 pub struct TextRange<'a> {
     pub block_len: u64,
