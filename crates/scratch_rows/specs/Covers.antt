@@ -1,10 +1,14 @@
 -- What the scratch table takes up. A block's extent and its own bytes begin at one offset, so one range takes up both; so do the extent
 -- and the header of a block that a link leads to.
-use Rattle.std.specs.Prelude.{List, [], ◌∷◌, ◌++◌, cond, ℕ, ◌+◌, min, max, length}
+use Rattle.std.specs.Prelude.{◌≡◌, List, [], ◌∷◌, ◌++◌, cond, ℕ, ◌+◌, min, max, length}
 use Rattle.mdf4.specs.Bytes.{Range, bytes, concat_map}
-use Rattle.mdf4.specs.Act.{Kind, Row, Link}
-use Rattle.mdf4.specs.Kinds.{block_len, read_len, make_link, name_head}
+use Rattle.mdf4.specs.Act.{ok, Kind, Row, Link}
+use Rattle.mdf4.specs.Kinds.{block_len, read_len, read_block, make_link, name_head}
 use Rattle.mdf4.specs.Reads.{leads_to_block, link_ranges, name_ranges, named_ranges, links_at}
+
+-- the block of the kind k at the offset a can be read in the recording r
+abbrev pub CanRead : Kind → List ℕ → ℕ → Type 0
+CanRead k r a = read_block k r a ≡ ok (bytes r a (read_len k r a))
 
 -- the channel name at the address t
 unfoldable pub name_cover : List ℕ → ℕ → List Range

@@ -3,15 +3,14 @@
 // not, has one for the block's header and one for its extent instead (document 02, order 1). What these ranges leave is clear.
 #![tactic(auto)]
 
-ghost use Rattle.std.specs.Prelude.{◌≡◌, [], ℕ, ◌+◌, ◌^◌, ◌≤◌, ◌<◌, length, map, get_or};
-ghost use Rattle.mdf4.specs.Act as spec;
+ghost use Rattle.std.specs.Prelude.{◌≡◌, [], ℕ, ◌+◌, ◌*◌, ◌^◌, ◌≤◌, ◌<◌, length, map, get_or};
 ghost use Rattle.mdf4.specs.Kinds.{read_len, make_link};
 ghost use Rattle.mdf4.specs.Reads.{leads_to_block};
 ghost use Rattle.mdf4.proofs.Good.{Readable};
 ghost use Rattle.blocks.specs.Kind.{kind_named};
 ghost use Rattle.tables.specs.Gaps.{Pushed, Pushes};
 ghost use Rattle.tables.specs.Rows.{row_of, row_of_words, link_of_words};
-ghost use Rattle.scratch_rows.specs.Covers.{name_cover, row_cover, linked_end, target_cover, covers};
+ghost use Rattle.scratch_rows.specs.Covers.{CanRead, name_cover, row_cover, linked_end, target_cover, covers};
 
 use blocks::channel_block::ChannelBlock;
 use blocks::channel_group_block::ChannelGroupBlock;
@@ -23,45 +22,38 @@ use blocks::identification_block::IdentificationBlock;
 use blocks::kind::Kind;
 use blocks::source_block::SourceBlock;
 use blocks::text_block::TextBlock;
-use little_endian::{read_u8, read_u32, read_u64};
+use little_endian::{read_u32, read_u64};
 use tables::{BLOCK_ROW_WORDS, BlockInfo, PAIR_WORDS, RangeTable};
 
 // What every block's mark starts with, ##, as a little-endian number.
 const BLOCK_MARK: u32 = 0x2323;
 
-// The read bytes of a data list.
-#[tactic(auto, using(crate::proofs::Lengths::list_least))]
-fn list_len(file: &[u8], offset: u64) -> u64
-    requires { offset + read_len spec.DL file.now offset ≤ length file.now }
-    ensures { result ≡ read_len spec.DL file.now offset }
+// The read bytes of a block that can be read, as its parser counts them.
+fn own_len<B: BlockParse>(file: &[u8], offset: u64) -> u64
+    requires { CanRead B.kind file.now offset }
+    ensures { result ≡ read_len B.kind file.now offset }
 {
-    let at = offset as usize;
-    let links_nr = read_u64(file, at + 16);
-    let behind = at + (BlockHeader::LEN as usize + 8 * links_nr as usize);
-    let words = if read_u8(file, behind) % 2 == 1 {
-        1
-    } else {
-        u64::from(read_u32(file, behind + 4))
+    let Ok(len) = B::extent(file, offset) else {
+        unreachable!()
     };
-    DataListBlock::FIXED_LEN + 8 * links_nr + 8 * words
+    len
 }
 
 // The read bytes of a block of a kind.
-#[tactic(auto, using(crate::proofs::Lengths::len_id, crate::proofs::Lengths::len_hd, crate::proofs::Lengths::len_dg, crate::proofs::Lengths::len_cg, crate::proofs::Lengths::len_cn, crate::proofs::Lengths::len_si, crate::proofs::Lengths::len_tx, crate::proofs::Lengths::len_md, crate::proofs::Lengths::len_dt, crate::proofs::Lengths::len_sd, crate::proofs::Lengths::len_ut, crate::proofs::Lengths::len_ud))]
+#[tactic(auto, using(mdf4::proofs::Fields::read_len_is), unfolding(mdf4::specs::Reads::listed_len))]
 fn read_len(file: &[u8], offset: u64, kind: Kind) -> u64
-    requires { offset + read_len (kind_named kind) file.now offset ≤ length file.now }
+    requires { CanRead (kind_named kind) file.now offset }
     ensures { result ≡ read_len (kind_named kind) file.now offset }
 {
-    let at = offset as usize;
     match kind {
         Kind::ID => IdentificationBlock::MIN_LEN,
         Kind::HD => HeaderBlock::MIN_LEN,
         Kind::DG => DataGroupBlock::MIN_LEN,
-        Kind::CG => ChannelGroupBlock::FIXED_LEN + 8 * read_u64(file, at + 16),
+        Kind::CG => own_len::<ChannelGroupBlock>(file, offset),
         Kind::CN => ChannelBlock::MIN_LEN,
-        Kind::SI => SourceBlock::FIXED_LEN + 8 * read_u64(file, at + 16),
-        Kind::TX | Kind::MD => BlockHeader::LEN.max(read_u64(file, at + 8)),
-        Kind::DL => list_len(file, offset),
+        Kind::SI => own_len::<SourceBlock>(file, offset),
+        Kind::TX | Kind::MD => BlockHeader::LEN.max(read_u64(file, offset as usize + 8)),
+        Kind::DL => own_len::<DataListBlock>(file, offset),
         Kind::DT | Kind::SD | Kind::UT | Kind::UD => BlockHeader::LEN,
     }
 }
@@ -147,7 +139,8 @@ pub fn put_spared(
     scratch: &mut [u64],
 ) -> usize
     requires { (i : ℕ) → i < length blocks.now → Readable file.now (row_of_words (get_or blocks.now i [])) }
-    ensures { Pushed scratch.old 0 (covers file.now (map row_of_words blocks.now) (map link_of_words links.now)) scratch.new result }
+    ensures pushed { Pushed scratch.old 0 (covers file.now (map row_of_words blocks.now) (map link_of_words links.now)) scratch.new result }
+    ensures count { result ≤ 2 * length blocks.now + 2 * length links.now }
 {
     let mut table = RangeTable::new(scratch);
     for row in blocks {

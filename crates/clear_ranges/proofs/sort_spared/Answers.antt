@@ -10,10 +10,10 @@ put_spared-count-requires c = λ i h. (c.requires.row i h).readable
 
 pub returns-then-lent-count : goal.returns-then-lent-count
 returns-then-lent-count c =
-    let filled = listed c.put_spared-count.ensures in
+    let filled = listed c.put_spared-count.ensures.pushed in
     λ y e1 e2 v e3. refused_at c.args.file.now _ _ filled y e1 e2 v e3 (omega arith)
 
 pub returns : goal.returns
 returns c =
-    let filled = listed c.put_spared-count.ensures in
+    let filled = listed c.put_spared-count.ensures.pushed in
     λ y e1 e2 v e3. sorted_at c.args.file.now _ _ filled y e1 e2 v e3 (covers_taken c.requires) (omega arith) c.sort_rows.ensures

@@ -1,26 +1,32 @@
 -- `put_block` meets its contract.
 use Rattle.std.proofs.Common.{◌≡◌, sym, ap, arith, rules}
 use denote.Enum.Bare.{same_true}
+use Rattle.mdf4.specs.Act as spec
+use Rattle.mdf4.specs.Reads.{listed_len}
+use Rattle.mdf4.proofs.Fields.{read_len_is}
 use Rattle.blocks.specs.contracts.kind.Kind.{the_type}
 use Rattle.blocks.specs.declared.kind.Kind.TheVariants.{CN}
 use Rattle.blocks.specs.Kind.{kind_named}
+use Rattle.tables.specs.Rows.{row_of}
 use Rattle.tables.proofs.Gapping.{pushes_then}
-use Rattle.scratch_rows.proofs.Lengths.{len_cn, row_whole, not_channel}
+use Rattle.scratch_rows.proofs.Lengths.{row_whole, not_channel}
 use Rattle.scratch_rows.proofs.NameCovers.{cover_channel, cover_other}
 use Rattle.scratch_rows.proofs.put_block.Goals as goal
 
 pub read_len-requires : goal.read_len-requires
-read_len-requires c = row_whole c.args.file.now c.args.block.now c.requires.1
+unfolding row_of
+read_len-requires c = c.requires.1
 
 pub overflow_add-behind : goal.overflow_add-behind
 overflow_add-behind c = omega (arith, c.read_len.ensures, row_whole c.args.file.now c.args.block.now c.requires.1)
 
 pub read_u64-requires : goal.read_u64-requires
+unfolding listed_len
 read_u64-requires c =
     let a = c.args in
     let e : a.block.now.kind ≡ CN = same_true the_type (search rules) _ _ (sym c.if-eq.ensures) in
     let w = rw e at (row_whole a.file.now a.block.now c.requires.1) in
-    omega (arith, len_cn a.file.now a.block.now.offset)
+    omega (arith, read_len_is a.file.now spec.CN a.block.now.offset)
 
 pub overflow_add-block : goal.overflow_add-block
 overflow_add-block c = let e = read_u64-requires c in omega arith

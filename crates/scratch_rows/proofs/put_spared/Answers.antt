@@ -32,8 +32,8 @@ loop-target-preserved c =
     let targets = turn (link_cover c.args.file.now) link_of_words c.args.links.now l.target-index _ c.loop-target-test.true l.invariant.0 pushed in
     (targets, omega (arith, c.put_link.ensures.count))
 
-pub returns : goal.returns
-returns c =
+pub returns-clause-pushed : goal.returns-clause-pushed
+returns-clause-pushed c =
     let a = c.args in
     let made = c.new-table.ensures in
     let blocks : take c.loop-row.row-index a.blocks.now ≡ a.blocks.now = take_all _ _ c.loop-row-test.false in
