@@ -62,8 +62,8 @@ fn show<R: Read, E: FnOnce(&[u8], &mut Lent) -> Result<Accepted, MdfError>>(
     say(rt, answer, &lent.out)
 }
 
-// Document 01's listing program. The three programs differ in their entry alone, but an entry takes its tables one by one, as C lends
-// them, so that each has a closure of its own.
+// Document 01's listing program. The three programs differ in their entry alone, but document 02 gives an entry its parameters, the
+// tables one by one, so that each has a closure of its own.
 pub fn listing<R: Read>(rt: &impl Print, input: &mut R) -> io::Result<()> {
     show(rt, input, |data, t| {
         block_layout::to_text(

@@ -12,10 +12,56 @@ use reading::read_full;
 use std::io;
 use utf8::{before_nul, count_chars, is_utf8, is_white, trim, trim_end, trim_nuls};
 
-// A record: the kind of its answer, what is asked about, and what Rust answered.
+// What is asked about, in the order of the numbers that the records have (tools/leaves.rs), from 1 on.
+#[derive(Clone, Copy)]
+enum Asked {
+    Lossy,
+    Characters,
+    Trim,
+    TrimEnd,
+    IsUtf8,
+    TrimNuls,
+    BeforeNul,
+    Preview,
+    OneLinePreview,
+    LossyLen,
+    FilledText,
+    FilledNumber,
+    Signed,
+    IsWhite,
+    DataType,
+    Version,
+}
+
+impl Asked {
+    // What the records call by a number.
+    fn of(number: u8) -> Option<Asked> {
+        Some(match number {
+            1 => Asked::Lossy,
+            2 => Asked::Characters,
+            3 => Asked::Trim,
+            4 => Asked::TrimEnd,
+            5 => Asked::IsUtf8,
+            6 => Asked::TrimNuls,
+            7 => Asked::BeforeNul,
+            8 => Asked::Preview,
+            9 => Asked::OneLinePreview,
+            10 => Asked::LossyLen,
+            11 => Asked::FilledText,
+            12 => Asked::FilledNumber,
+            13 => Asked::Signed,
+            14 => Asked::IsWhite,
+            15 => Asked::DataType,
+            16 => Asked::Version,
+            _ => return None,
+        })
+    }
+}
+
+// A record: what is asked, of which bytes, and what Rust answered.
 #[derive(Clone, Copy)]
 struct Record<'a> {
-    kind: u8,
+    asked: Asked,
     input: &'a [u8],
     answer: &'a [u8],
 }
@@ -35,58 +81,51 @@ fn put_version(page: &mut Page<'_>, text: &[u8]) {
     }
 }
 
-// Texts, by their kind, a number of the records (tools/leaves.rs).
-fn put_text(page: &mut Page<'_>, kind: u8, text: &[u8]) {
-    match kind {
-        1 => page.put_lossy(text),
-        2 => page.put_dec(count_chars(text) as u64),
-        3 => page.put_lossy(trim(text)),
-        4 => page.put_lossy(trim_end(text)),
-        5 => put_bool(page, is_utf8(text)),
-        6 => page.put_lossy(trim_nuls(text)),
-        7 => page.put_lossy(before_nul(text)),
-        8 => page.put_preview(text, 48, false),
-        9 => page.put_preview(text, 48, true),
-        10 => page.put_dec(lossy_len(text)),
-        _ => page.put_left(text, 28),
-    }
-}
-
-// Numbers, by their kind, of as many bytes as they have.
-fn put_number(page: &mut Page<'_>, kind: u8, b: &[u8]) {
-    match (kind, b.len()) {
-        (12, 8) => page.put_format(b"%|!|*|&|^|~|$", &[read_u64(b, 0); 7]),
-        (13, 2) => page.put_i16(signed16(read_u16(b, 0))),
-        (14, 4) => put_bool(page, is_white(read_u32(b, 0))),
-        (15, 1) => put_data_type(page, b[0]),
-        (16, _) => put_version(page, b),
-        _ => {}
-    }
-}
-
 impl Record<'_> {
+    // What is answered here; nothing of a number that has not its bytes.
+    fn put_answer(&self, page: &mut Page<'_>) {
+        let b = self.input;
+        match (self.asked, b.len()) {
+            (Asked::Lossy, _) => page.put_lossy(b),
+            (Asked::Characters, _) => page.put_dec(count_chars(b) as u64),
+            (Asked::Trim, _) => page.put_lossy(trim(b)),
+            (Asked::TrimEnd, _) => page.put_lossy(trim_end(b)),
+            (Asked::IsUtf8, _) => put_bool(page, is_utf8(b)),
+            (Asked::TrimNuls, _) => page.put_lossy(trim_nuls(b)),
+            (Asked::BeforeNul, _) => page.put_lossy(before_nul(b)),
+            (Asked::Preview, _) => page.put_preview(b, 48, false),
+            (Asked::OneLinePreview, _) => page.put_preview(b, 48, true),
+            (Asked::LossyLen, _) => page.put_dec(lossy_len(b)),
+            (Asked::FilledText, _) => page.put_left(b, 28),
+            (Asked::FilledNumber, 8) => page.put_format(b"%|!|*|&|^|~|$", &[read_u64(b, 0); 7]),
+            (Asked::Signed, 2) => page.put_i16(signed16(read_u16(b, 0))),
+            (Asked::IsWhite, 4) => put_bool(page, is_white(read_u32(b, 0))),
+            (Asked::DataType, 1) => put_data_type(page, b[0]),
+            (Asked::Version, _) => put_version(page, b),
+            _ => {}
+        }
+    }
+
     fn is_answered(&self) -> bool {
         let mut out = [0u8; 1024];
         let mut page = Page::new(&mut out);
-        match self.kind {
-            0..=11 => put_text(&mut page, self.kind, self.input),
-            _ => put_number(&mut page, self.kind, self.input),
-        }
+        self.put_answer(&mut page);
         let n = page.at;
         out.get(..n) == Some(self.answer)
     }
 }
 
-// The record at the front of the records, and those behind it; none where its bytes don't.
+// The record at the front of the records, and those behind it; none where it is none or its bytes aren't there.
 fn next(b: &[u8]) -> Option<(Record<'_>, &[u8])>
     ensures { IfSome result (λ it. length it.1.now < length b.now) }
 {
     let (&[kind, n0, n1, m0, m1], b) = b.split_first_chunk::<5>()?;
     let (input, b) = b.split_at_checked(u16::from_le_bytes([n0, n1]) as usize)?;
     let (answer, b) = b.split_at_checked(u16::from_le_bytes([m0, m1]) as usize)?;
+    let asked = Asked::of(kind)?;
     Some((
         Record {
-            kind,
+            asked,
             input,
             answer,
         },
@@ -102,7 +141,7 @@ fn replay(rt: &impl Print, b: &[u8]) -> io::Result<()> {
     let mut rest = b;
     let mut read: usize = 0;
     let mut differ: usize = 0;
-    // a record says where the next one begins, so no iterator of the library yields them
+    // a record says where the next one begins: an iterator of their own would be longer than this loop, its one use
     while !rest.is_empty() {
         let place = b.len() - rest.len();
         let Some((record, after)) = next(rest) else {

@@ -1,5 +1,5 @@
 // A recording of the pack: its parts, what was answered, and what the entries are lent for it.
-ghost use Rattle.std.specs.Prelude.{◌≤◌, ◌<◌};
+ghost use Rattle.std.specs.Prelude.{◌<◌};
 
 use block_layout::{Accepted, Rows};
 use blocks::error::Refusal;
