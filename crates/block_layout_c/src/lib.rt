@@ -1,5 +1,5 @@
 // The entries for C and Rust to call: each does what the entry of the same name does, and its answer goes out as words.
-// include/block_layout.h declares them.
+// include/block_layout.h declares them, a function for each entry, as C has no generic ones.
 #![tactic(auto)]
 
 ghost use Rattle.std.specs.Prelude.{◌≡◌, [], length};

@@ -10,7 +10,8 @@ use blocks::error::MdfError;
 use clear_ranges::sort_spared;
 use file_layout::{LentTables, Rows};
 
-// The rows in use of each table, those of the scratch table last.
+// The rows in use of each table, those of the scratch table last: a number, since a slice that is handed back of a table lent to be
+// changed takes clauses of the program logic's own.
 #[derive(Clone, Copy, Debug, PartialEq, Eq)]
 pub struct Clearable {
     pub rows: Rows,

@@ -50,8 +50,8 @@ pub fn put_mark_column(page: &mut Page<'_>, mark: u64)
     page.put_times(b' ', 6usize.saturating_sub(count_chars(&bytes_of(mark))));
 }
 
-// The description of a block. That it can be read is asked here, of the line below it and where both are called: a struct of
-// recording and row that knows it would be made by each caller for one call, and be taken apart in it.
+// The description of a block. That it can be read is asked here, of the line below it, where both are called, and with its kind of the
+// functions of a kind: a struct of recording and row that knows it would be made for one call here, and its kind still be asked there.
 pub fn put_description(page: &mut Page<'_>, file: &[u8], block: &BlockInfo)
     requires { Readable file.now (row_of block.now) }
     ensures { Writes page.old (describe file.now (row_of block.now)) page.new }

@@ -24,7 +24,8 @@ pub struct Rows {
     pub gaps: usize,
 }
 
-// The four lent tables of an entry (document 01). C lends them one by one, and so the public entries take them.
+// The four lent tables of an entry (document 01). C lends them one by one, and so the public entries take them. Each makes the literal
+// itself: of a function that took four `&mut` of one lifetime the check would not know which ends as which.
 #[derive(Drop)]
 pub struct LentTables<'a> {
     pub visited: &'a mut [u64],
@@ -107,7 +108,7 @@ impl LentTables<'_> {
         self.lay_gaps(data.len() as u64, w)
     }
 
-    // The rows of blocks that are in use.
+    // The rows of blocks that are in use. That they fit is asked of each table's: `LaidMet` tells it of all at once.
     pub fn block_rows(&self, rows: Rows) -> &[[u64; BLOCK_ROW_WORDS]]
         requires { rows.blocks * block_row_words ≤ length self.now.blocks.now }
         ensures { result.now ≡ table block_row_words (λ row. row) rows.blocks self.now.blocks.now }

@@ -1,7 +1,7 @@
 // Bytes into a lent output, in place of Rust's format!. specs/ says what is written.
 #![tactic(auto)]
 
-ghost use Rattle.std.specs.Prelude.{◌≡◌, ◌∷◌, [], ◌++◌, ◌<◌, ◌≤◌, ◌-◌, ◌^◌, min, length, replicate};
+ghost use Rattle.std.specs.Prelude.{◌≡◌, ◌∷◌, [], ◌<◌, ◌≤◌, ◌-◌, ◌^◌, min, length, replicate};
 ghost use Rattle.fmt.specs.Text.{Writes};
 ghost use Rattle.fmt.specs.Digits.{digit, digits, pad_left, pad_right, dec, dec_right, hex, i16_of, dec_signed};
 ghost use Rattle.fmt.specs.Format.{piece, takes, format};
@@ -197,7 +197,8 @@ fn takes_of(b: u8) -> usize
     usize::from(matches!(b, b'%' | b'!' | b'*' | b'&' | b'^' | b'~' | b'$'))
 }
 
-// The number whose 16 bits are those of u, the highest one its sign: std's cast, with the definition's value.
+// The number whose 16 bits are those of u, the highest one its sign: std's cast under a name of its own, whose
+// contract has the definition's value.
 pub fn signed16(u: u16) -> i16
     ensures { result ≡ i16_of u }
 {

@@ -1,5 +1,6 @@
-// Little-endian numbers of a slice at an offset, as Rust's crate byteorder reads them, by std's `from_le_bytes`. That crate's trait over
-// the byte order would have one case here.
+// Little-endian numbers of a slice at an offset, as Rust's crate byteorder reads them, by std's `from_le_bytes`. The toolchain's
+// crate of that name reads the front of a slice and promises its own sum of bytes: each call would cut the slice, and each proof tie that
+// sum to the definition's `num`.
 #![tactic(auto)]
 
 ghost use Rattle.std.specs.Prelude.{◌≡◌, ◌+◌, ◌≤◌, length};

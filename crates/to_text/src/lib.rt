@@ -5,7 +5,7 @@ ghost use Rattle.std.specs.Prelude.{[], ℕ, ◌<◌, length, map, get_or};
 ghost use Rattle.fmt.specs.Text.{Wrote, Writes};
 ghost use Rattle.mdf4.specs.Bytes.{concat_map};
 ghost use Rattle.mdf4.specs.Layout.{Layout};
-ghost use Rattle.mdf4.specs.Listing.{head_lines, row_lines, gap_line, gap_lines, found_text, target_text, link_line, link_lines, block_links, to_text};
+ghost use Rattle.mdf4.specs.Listing.{head_lines, row_lines, gap_lines, found_text, target_text, link_line, link_lines, block_links, to_text};
 ghost use Rattle.mdf4.proofs.Good.{Readable};
 ghost use Rattle.blocks.specs.Kind.{kind_named};
 ghost use Rattle.tables.specs.Gaps.{range_of};

@@ -22,6 +22,7 @@ pub struct Printer<'a, 'p, 'o> {
     pub links: &'a [[u64; PAIR_WORDS]],
     pub n: usize,
     pub blocks: &'a mut [u64],
+    // as many as a node is deep are in use: a stack would be pushed and popped around each call for that
     pub bars: [bool; MAX_LEVELS],
     pub page: &'p mut Page<'o>,
     ghost ready: { Ready file.now links.now n blocks.now },

@@ -37,7 +37,8 @@ pub struct RecordLayout {
     pub record_id_len: u64,
 }
 
-// A row of the link table: `found` is 0, or 1 + the mark at the target.
+// A row of the link table: `found` is 0, or 1 + the mark at the target. It is that word and no Option, since document 01 has it so in
+// the table, and it is stored, compared and shown as it is there.
 #[derive(Clone, Copy, Debug, PartialEq, Eq)]
 pub struct Link {
     pub target: u64,
@@ -115,7 +116,8 @@ impl Walk {
     }
 }
 
-// A target and its four bytes have to lie below 2^64.
+// A target and its four bytes have to lie below 2^64. Refusal 7 is written here, in `check_room`, in `walk_text_like` and in
+// `read_text_at`: a function for it would answer the sum, which two of the four don't need.
 fn check_target(target: u64) -> Result<(), MdfError>
     ensures { told result ≡ spec.check (ltb (target + 4) (2 ^ 64)) (spec.refusal 7 target target 4) }
 {
@@ -166,7 +168,8 @@ impl<'a> Walker<'a> {
         })
     }
 
-    // Marks an offset as visited, and says whether it is new.
+    // Marks an offset as visited, and says whether it is new. Each walk of a block tests that first: as a step over a closure, which would
+    // be lent the walker, the test would be no shorter.
     pub fn mark(&mut self, at: u64) -> Result<bool, MdfError>
         ensures { (k : spec.Kind) → Does (λ b. b) self.old result self.new (mark k at) }
     {

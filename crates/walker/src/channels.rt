@@ -17,8 +17,8 @@ use walk_blocks::regions::{MAX_LISTS, walk_data_region};
 use walk_blocks::texts::{walk_conversion, walk_source, walk_text_like};
 use walk_state::{Block, RecordLayout, Walker};
 
-// The channel type with data of its own: variable length signal data. It is no enum's, as a recording's types are shown as numbers,
-// whatever they are, and no other one is told apart.
+// The channel type with data of its own: variable length signal data. No enum: a recording's types are shown as numbers,
+// and no other one is told apart.
 const VLSD: u8 = 1;
 
 // Reads a channel, accepts its name and lists it.

@@ -4,7 +4,7 @@ ghost use Rattle.mdf4.specs.Act as spec;
 ghost use Rattle.mdf4.specs.Kinds.{no_records};
 ghost use Rattle.mdf4.specs.Walk as walk;
 ghost use Rattle.blocks.specs.ChannelGroupBlock.{channel_group_block_of};
-ghost use Rattle.walk_state.specs.Held.{Does, Walks};
+ghost use Rattle.walk_state.specs.Held.{Does};
 ghost use Rattle.walk_state.specs.Within.{layout_of};
 ghost use Rattle.walker.specs.Chains.{entered};
 ghost use Rattle.walker.specs.Groups.{group_records, grouped_at, enter_channel_group, handed};
@@ -113,7 +113,8 @@ pub fn walk_channel_group(
     enter_channel_group(walker, addr, record_id_len)
 }
 
-// Walks a chain of channel groups: the first one's record layout is handed down. Here too each one says where the next one stands.
+// Walks a chain of channel groups: the first one's record layout is handed down. Here too each one says where the next one
+// stands; it stays beside the other two chains, as data_groups.rt says.
 pub fn walk_channel_groups(
     walker: &mut Walker<'_>,
     first: u64,
