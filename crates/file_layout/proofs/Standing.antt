@@ -1,7 +1,7 @@
 -- What an entry takes from the answer of its first part, and what its next part takes from the layout that stands in the tables.
 -- Assumes nothing.
 use Rattle.std.specs.Prelude.{Err}
-use mathlib.Core.Path.{◌≡◌, sym, ap, ◌∙◌}
+use mathlib.Core.Path.{◌≡◌, refl, sym, ap, ◌∙◌}
 use mathlib.Core.List.{List, [], ◌∷◌, map}
 use Prim.Native.Nat.{ℕ, ◌/◌, ◌<◌}
 use native.Mathlib.Omega.{arith}
@@ -17,7 +17,7 @@ use Rattle.mdf4.proofs.Texts.{all_sort}
 use Rattle.mdf4.proofs.Demand3.{pairs_in}
 use Rattle.blocks.specs.Errors.{numbers}
 use Rattle.blocks.specs.declared.error.MdfError.{MdfError}
-use Rattle.tables.specs.Rows.{table, row_of_words, link_of_words}
+use Rattle.tables.specs.Rows.{table, row_of_words, link_of_words, held_rows}
 use Rattle.tables.specs.Gaps.{range_of}
 use Rattle.tables.specs.Laid.{Shows, RowOk, Printable}
 use Rattle.tables.proofs.Chunks.{held_rows_are, held_links_are, map-table}
@@ -71,6 +71,12 @@ module _ {asked : Out (Unit {0})} {n : Lent} {r : List ℕ} {x : Rows} {t : Lent
     unfolding filled
     shows_rows =
         rw (e, held_rows_are x.blocks t.blocks.now, s.fills.blocks_count, s.fills.blocks) (sym (rows_back [] s.layout.blocks _))
+
+  -- the rows of the block table ascend too
+  pub rising_rows : Rising (held_rows x.blocks t.blocks.now)
+  rising_rows =
+      let e : s.layout.blocks ≡ held_rows x.blocks t.blocks.now = shows_rows refl ∙ held_rows_are x.blocks t.blocks.now in
+      rw e at rising
 
   module _ {ls : List (List ℕ)} (e : ls ≡ table pair_words (λ row. row) x.links t.links.now) where
     pub shows_links : s.layout.state.links ≡ map link_of_words ls
