@@ -6,6 +6,7 @@ ghost use Rattle.blocks.specs.HeaderBlock.{header_block_of};
 use crate::common::BlockParse;
 use crate::error::MdfError;
 use crate::extent::fixed_extent;
+use crate::identification_block::IdentificationBlock;
 use little_endian::{read_i16, read_u8, read_u64};
 
 #[derive(Clone, Copy, Debug, PartialEq, Eq)]
@@ -21,6 +22,11 @@ pub struct HeaderBlock {
     pub time_flags: u8,
     pub time_quality: u8,
     pub flags: u8,
+}
+
+impl HeaderBlock {
+    // Where the header stands: behind the identification.
+    pub const OFFSET: u64 = IdentificationBlock::MIN_LEN;
 }
 
 impl BlockParse for HeaderBlock {

@@ -1,16 +1,13 @@
 -- The own bytes of a block that can be read: its fields are those of them, and what is said of it is said of them.
-use Rattle.std.proofs.Common.{◌≡◌, refl, ap, ◌∙◌, ℕ, ◌+◌, ◌≤◌, cond, List, [], length, Result, Ok, Err, arith}
+use Rattle.std.proofs.Common.{◌≡◌, ap, ◌∙◌, ℕ, ◌+◌, ◌≤◌, cond, List, [], length}
 use Rattle.mdf4.specs.Bytes.{bytes}
-use Rattle.mdf4.specs.Act.{Out, ok, and_then, Kind, ID, CN}
-use Rattle.mdf4.specs.Kinds.{shape, is, read_len, read_block, rest, name_link}
+use Rattle.mdf4.specs.Act.{ok, Kind, CN}
+use Rattle.mdf4.specs.Kinds.{is, read_len, read_block, name_link}
 use Rattle.mdf4.specs.Reads.{links_at}
 use Rattle.mdf4.specs.Describe.{describe_of, extra_of, block_bytes, row_name, name_bytes, describe, extra_line}
 use Rattle.mdf4.proofs.Reading.{read_whole}
 use Rattle.tables.specs.declared.BlockInfo.{BlockInfo}
 use Rattle.tables.specs.Rows.{row_of}
-use Rattle.blocks.specs.declared.error.MdfError.{MdfError}
-use Rattle.blocks.specs.Errors.{told}
-use Rattle.blocks.specs.Parse.{parsed}
 use Rattle.blocks.specs.TextBlock.{TextAt}
 use Rattle.describe.specs.Info.{OfKind}
 
@@ -37,12 +34,6 @@ module _ {k : Kind} {r : List ℕ} {b : BlockInfo} (o : OfKind k r b) where
   pub lined : extra_line r (row_of b) ≡ extra_of k (row_of b) (own r b)
   unfolding extra_line row_of
   lined = rw o.kind
-
-  -- what a parser answers
-  pub parsed_own : {A : Type 0} (f : List ℕ → A) (x : Result A MdfError) → told x ≡ parsed f k r b.offset → x ≡ Ok (f (own r b))
-  unfolding parsed and_then
-  parsed_own f (Ok y) e = let p : ok y ≡ ok (f (own r b)) = rw own_read at e in cc
-  parsed_own f (Err y) e = let p : told (Err y) ≡ ok (f (own r b)) = rw own_read at e in cc
 
   pub text_own : {text : List ℕ → List ℕ} {len : ℕ} {t : List ℕ} → TextAt k text r b.offset len t → t ≡ text (own r b)
   text_own {text} x = let e : x.own ≡ own r b = (let p = x.read in let q = own_read in cc) in x.is ∙ ap text e

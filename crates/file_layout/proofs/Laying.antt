@@ -2,11 +2,9 @@
 use Rattle.std.specs.Prelude as std
 use Rattle.std.specs.Result.{IsErrAnd}
 use mathlib.Core.Path.{◌≡◌, refl, sym, ap, ◌∙◌}
-use mathlib.Core.Bool.{Bool, true, false, cond}
 use mathlib.Core.List.{List, [], ◌∷◌, ◌++◌, map}
-use Prim.Native.Nat.{ℕ, suc, ◌-◌, ◌*◌, ◌/◌, ◌≤◌, ◌<◌}
+use Prim.Native.Nat.{ℕ, ◌-◌, ◌*◌, ◌/◌, ◌≤◌, ◌<◌}
 use native.Mathlib.Omega.{arith}
-use lib.Dec.{leb}
 use lib.ListN.{length, take, drop, replicate, length-append, length-replicate}
 use lib.Seq.{length-take-le}
 use borrow.Author.Tests.{le-leb, lt-leb}
@@ -14,12 +12,13 @@ use Rattle.fmt.proofs.Room.{drop_replicate}
 use Rattle.mdf4.specs.Bytes.{Range, concat_map}
 use Rattle.mdf4.specs.Act.{refusal, Result, Out, ok, err, and_then, check, Stop, Row, State, reason}
 use Rattle.mdf4.specs.Walk.{walk, start}
-use Rattle.mdf4.specs.Layout.{insert, sort, compute_gaps, Layout, layout_of, walk_state, gaps_fitted, layout_if, layout}
+use Rattle.mdf4.specs.Layout.{sort, compute_gaps, Layout, layout_of, walk_state, gaps_fitted, layout_if, layout}
 use Rattle.mdf4.specs.Demand3.{ranges_in}
 use Rattle.mdf4.specs.Answers.{Lent, limits, block_row_words, pair_words, row_words, link_words, range_words, filled, laid}
 use Rattle.mdf4.proofs.Walk.{walk_inv}
 use Rattle.mdf4.proofs.Laid.{state_walked}
 use Rattle.mdf4.proofs.Finalized.{whole}
+use Rattle.mdf4.proofs.Order.{sort_length}
 use Rattle.tables.specs.Rows.{table, held_rows, held_links}
 use Rattle.tables.specs.Blocks.{Ordered}
 use Rattle.tables.specs.Gaps.{range_of, Listed}
@@ -52,21 +51,6 @@ filled_is k xs t e =
 
 zeros_long : (n : ℕ) {t : List ℕ} → t ≡ replicate n 0 → length t ≡ n
 zeros_long n e = ap length e ∙ length-replicate {A = ℕ} n 0
-
--- sorting keeps the number of rows
-insert_length : (w : Row) (vs : List Row) → length (insert w vs) ≡ suc (length vs)
-unfolding insert
-insert_length w [] = refl
-insert_length w (v ∷ vs) = go (leb w.off v.off) (insert_length w vs)
-  where
-    go : (t : Bool) → length (insert w vs) ≡ suc (length vs) → length (cond t (w ∷ v ∷ vs) (v ∷ insert w vs)) ≡ suc (suc (length vs))
-    go true e = refl
-    go false e = ap (λ (j : ℕ). suc j) e
-
-sort_length : (ws : List Row) → length (sort ws) ≡ length ws
-unfolding sort
-sort_length [] = refl
-sort_length (w ∷ ws) = insert_length w (sort ws) ∙ ap (λ (j : ℕ). suc j) (sort_length ws)
 
 -- the counts of a walk that starts, as `Walk::default` ensures them
 abbrev IsNone : Walk → Type 0

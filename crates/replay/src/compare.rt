@@ -3,11 +3,11 @@ use crate::calls::{Call, Lent};
 use crate::recording::Entry;
 use block_layout::Accepted;
 use blocks::error::MdfError;
-use tables::BLOCK_ROW_WORDS;
+use tables::{BLOCK_ROW_WORDS, TREE_MARK};
 
-// Whether the word at place i of a table is this one of a part, or where a tree marked the block rows, 1 as the last of each.
+// Whether the word at place i of a table is this one of a part, or where a tree marked the block rows, 1 as each one's mark.
 fn is_word(x: u64, i: usize, word: [u8; 8], marked: bool) -> bool {
-    let is_mark = marked && i % BLOCK_ROW_WORDS == BLOCK_ROW_WORDS - 1;
+    let is_mark = marked && i % BLOCK_ROW_WORDS == TREE_MARK;
     x == if is_mark { 1 } else { u64::from_le_bytes(word) }
 }
 

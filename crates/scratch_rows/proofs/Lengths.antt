@@ -1,13 +1,12 @@
 -- How many bytes of a block are read, and that they lie inside the file.
-use mathlib.Core.Path.{◌≡◌, refl}
+use mathlib.Core.Path.{◌≡◌, refl, ap, ◌∙◌}
 use mathlib.Core.Bool.{false}
 use mathlib.Core.List.{List}
 use Prim.Native.Nat.{ℕ, ◌+◌, ◌≤◌}
 use native.Mathlib.Omega.{arith}
 use lib.ListN.{length}
-use Rattle.std.specs.Prelude.{Result, Ok, Err}
+use Rattle.std.specs.Prelude.{Result, Ok}
 use Rattle.mdf4.specs.Bytes.{bytes}
-use Rattle.mdf4.specs.Act.{ok, and_then}
 use Rattle.mdf4.specs.Act as spec
 use Rattle.mdf4.specs.Kinds.{shape, read_len}
 use Rattle.mdf4.specs.Kinds as kinds
@@ -20,6 +19,7 @@ use Rattle.blocks.specs.Errors.{told}
 use Rattle.blocks.specs.Kind.{kind_named}
 use Rattle.blocks.specs.Parse.{parsed}
 use Rattle.blocks.proofs.Extents.{own_of}
+use Rattle.blocks.proofs.Parse.{parsed_read}
 use Rattle.tables.specs.declared.BlockInfo.{BlockInfo}
 use Rattle.tables.specs.Rows.{row_of}
 use Rattle.scratch_rows.specs.Covers.{CanRead}
@@ -30,12 +30,7 @@ read_least k r a = omega (arith, need_least k (bytes r a 24))
 
 -- what its parser answers where it can be read
 pub told_len : (k : spec.Kind) (r : List ℕ) (a : ℕ) → CanRead k r a → (x : Result ℕ MdfError) → told x ≡ parsed length k r a → x ≡ Ok (read_len k r a)
-unfolding parsed and_then
-told_len k r a q (Ok n) e =
-    let p : ok n ≡ ok (length (bytes r a (read_len k r a))) = rw q at e in
-    let z = (own_of k r a q).len in
-    cc
-told_len k r a q (Err y) e = let p : told (Err y) ≡ ok (length (bytes r a (read_len k r a))) = rw q at e in cc
+told_len k r a q x e = parsed_read length k r a q x e ∙ ap Ok (own_of k r a q).len
 
 -- a row's own bytes lie inside the file
 pub row_whole : (r : List ℕ) (b : BlockInfo) → Readable r (row_of b) → b.offset + read_len (kind_named b.kind) r b.offset ≤ length r

@@ -5,13 +5,10 @@ use crate::line::{Edge, put_node_line};
 use crate::search::next_child;
 use blocks::error::MdfError;
 use fmt::Page;
-use tables::{BLOCK_ROW_WORDS, BlockInfo, PAIR_WORDS, first_rows};
+use tables::{BLOCK_ROW_WORDS, BlockInfo, PAIR_WORDS, TREE_MARK, first_rows};
 
 // How deep a line may be.
 pub const MAX_LEVELS: usize = 4096;
-
-// The word of a row that is its tree mark.
-const TREE_MARK: usize = 11;
 
 // A tree that is being printed. The recording and the links are read only; of the n rows of the block table the tree marks change.
 // A bar says of a node above whether it was the last of its siblings. The page is lent with lifetimes of its own: of a page held

@@ -17,9 +17,6 @@ use blocks::kind::Kind;
 use walk_blocks::texts::walk_text_like;
 use walk_state::{Block, Walker};
 
-// The identification stands at 0, the header behind it.
-const HEADER_AT: u64 = IdentificationBlock::MIN_LEN;
-
 // Reads and lists the identification.
 fn enter_identification(walker: &mut Walker<'_>) -> Result<(), MdfError>
     ensures { Walks walker.old result walker.new enter_identification }
@@ -48,7 +45,7 @@ pub fn walk_identification(walker: &mut Walker<'_>) -> Result<(), MdfError>
 fn open_header(walker: &mut Walker<'_>) -> Result<HeaderBlock, MdfError>
     ensures { Does (λ x. x) walker.old result walker.new (entered spec.HD 64 (no_records 0) header_block_of) }
 {
-    let header = HeaderBlock::parse(walker.file, HEADER_AT)?;
+    let header = HeaderBlock::parse(walker.file, HeaderBlock::OFFSET)?;
     let targets = [
         header.first_dg_addr,
         header.file_history_addr,
@@ -57,7 +54,12 @@ fn open_header(walker: &mut Walker<'_>) -> Result<HeaderBlock, MdfError>
         header.first_event_addr,
         header.comment_addr,
     ];
-    let block = Block::plain(HEADER_AT, HeaderBlock::MIN_LEN, HeaderBlock::ID, Kind::HD);
+    let block = Block::plain(
+        HeaderBlock::OFFSET,
+        HeaderBlock::MIN_LEN,
+        HeaderBlock::ID,
+        Kind::HD,
+    );
     walker.list_block(block, &targets)?;
     Ok(header)
 }
@@ -75,7 +77,7 @@ fn enter_header(walker: &mut Walker<'_>) -> Result<(), MdfError>
 pub fn walk_header(walker: &mut Walker<'_>) -> Result<(), MdfError>
     ensures { (fuel : ℕ) → length walker.old.visited.now ≤ fuel → Walks walker.old result walker.new (defn.walk_header fuel) }
 {
-    if !walker.mark(HEADER_AT)? {
+    if !walker.mark(HeaderBlock::OFFSET)? {
         return Ok(());
     }
     enter_header(walker)
