@@ -14,7 +14,7 @@ use Rattle.mdf4.specs.Walk.{walk, start}
 use Rattle.mdf4.specs.Layout.{Layout, layout, layout_of, walk_state}
 use Rattle.mdf4.specs.Clear.{clear_ranges}
 use Rattle.mdf4.specs.Blank.{zeroed, nonzero, changed}
-use Rattle.mdf4.specs.Answers.{Lent, Counts, Made, made, Exit, exit, filled, room, laid, limits, counts, clearable, pair_words, clear_list_made, blank_made, counted, preview_made, layout_exit, to_text_exit, to_tree_exit, clear_list_exit, blank_exit, preview_exit, blanked, blank_recording}
+use Rattle.mdf4.specs.Answers.{Lent, Counts, Made, made, Exit, exit, filled, room, laid, limits, counts, clearable, pair_words, clear_list_made, blank_made, counted, preview_made, layout_exit, to_text_exit, to_tree_exit, path_exit, clear_list_exit, blank_exit, preview_exit, blanked, blank_recording}
 use Rattle.mdf4.specs.Demand3.{Block, read, read_by, kept, kept_by}
 use Rattle.mdf4.specs.Blanked.{Blanks, ByList, AnyLent, Untouched, Once, After, Previews, ShownFirst, preview_uncounted, Idle}
 use Rattle.mdf4.proofs.Results.{never}
@@ -22,7 +22,7 @@ use Rattle.mdf4.proofs.Lists.{all_map}
 use Rattle.mdf4.proofs.Reading.{Agree}
 use Rattle.mdf4.proofs.Laid.{walked, state_is, walked_state, clear_neither, clear_apart, clear_below, block_not_clear}
 use Rattle.mdf4.proofs.Texts.{Shared, layout_of_same, clear_ranges_same, counting, counting_same}
-use Rattle.mdf4.proofs.Demand3.{Same, same_layout, same_to_text, same_to_tree, same_clear_list, same_blank, same_preview, clearable_is, clear_list_cleared, blank_cleared, counting_cleared, clear_list_accepted, blank_accepted, preview_accepted, is, gaps_in_are, links_are, target_is, written}
+use Rattle.mdf4.proofs.Demand3.{Same, same_layout, same_to_text, same_to_tree, same_path, same_clear_list, same_blank, same_preview, clearable_is, clear_list_cleared, blank_cleared, counting_cleared, clear_list_accepted, blank_accepted, preview_accepted, is, gaps_in_are, links_are, target_is, written}
 use Rattle.mdf4.proofs.Lending.{clear_lending, state_other, ends_in, shared_other}
 use Rattle.mdf4.proofs.Zeroed.{zeroed_length, zeroed_at, zeroed_twice, Held, all_held, map_same, nonzero_none, nonzero_changed, ends_below, sum_changed}
 
@@ -170,6 +170,9 @@ to_text_after = after to_text_exit same_to_text
 
 pub to_tree_after : After to_tree_exit
 to_tree_after = after to_tree_exit same_to_tree
+
+pub path_after : (a : ℕ) → After (path_exit a)
+path_after a = after (path_exit a) (same_path a)
 
 pub clear_list_after : After clear_list_exit
 clear_list_after = after clear_list_exit same_clear_list

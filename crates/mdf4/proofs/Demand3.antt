@@ -1,6 +1,7 @@
 -- Demand 3 of the entries: what specs/Demand3.antt states.
 use mathlib.Core.Path.{◌≡◌, refl, sym, ap, ◌∙◌}
 use mathlib.Core.List.{List, [], ◌∷◌, ◌++◌, map}
+use mathlib.Core.Logic.{◌⊎◌, inl, inr}
 use Prim.Native.Nat.{ℕ, zero, suc, ◌/◌, ◌<◌}
 use native.Mathlib.Omega.{arith}
 use lib.ListN.{length, length-map, get_or, take, get_or-map}
@@ -14,16 +15,18 @@ use Rattle.mdf4.specs.Clear.{clear_ranges, clr_bytes}
 use Rattle.mdf4.specs.Blank.{nonzero}
 use Rattle.mdf4.specs.Listing.{to_text}
 use Rattle.mdf4.specs.Tree.{to_tree}
-use Rattle.mdf4.specs.Answers.{Lent, Counts, Exit, Made, made, exit, laid, laid_finalized, clearable, limits, fitted, room, counts, filled, counted, layout_made, to_text_made, to_tree_made, clear_list_made, blank_made, preview_made, layout_exit, to_text_exit, to_tree_exit, clear_list_exit, blank_exit, preview_exit, row_words, link_words, range_words, block_row_words, pair_words}
+use Rattle.mdf4.specs.Paths.{path}
+use Rattle.mdf4.specs.Answers.{Lent, Counts, Exit, Made, made, exit, laid, laid_finalized, clearable, limits, fitted, room, counts, filled, counted, layout_made, to_text_made, to_tree_made, path_made, clear_list_made, blank_made, preview_made, layout_exit, to_text_exit, to_tree_exit, path_exit, clear_list_exit, blank_exit, preview_exit, row_words, link_words, range_words, block_row_words, pair_words}
 use Rattle.mdf4.specs.Blanked.{untotalled, uncounted, preview_uncounted}
-use Rattle.mdf4.specs.Demand3.{Again, Alike, Tables, Cleared, Block, Spared, read, read_by, kept, kept_by, ranges_in, offsets, extents_in, gaps_in, targets_in}
+use Rattle.mdf4.specs.Demand3.{Again, Alike, Tables, Cleared, Block, Spared, read, read_by, kept, kept_by, ranges_in, offsets, extents_in, gaps_in, targets_in, Origin, origins_in, origin_at, Pathed}
 use Rattle.mdf4.proofs.Results.{never, and_then_ok, check_ok}
 use Rattle.mdf4.proofs.Reading.{Agree}
 use Rattle.mdf4.proofs.Walk.{walk_again, walk_id_whole}
 use Rattle.mdf4.proofs.Laid.{walked, state_is, walked_state, granted, ascending, partition, each_gap, gaps_add_up, clear_neither, block_header, block_not_clear, clear_apart, clear_fewest}
 use Rattle.mdf4.proofs.Finalized.{finalized_zeros}
 use Rattle.mdf4.proofs.Order.{Above, Rising}
-use Rattle.mdf4.proofs.Texts.{Shared, shared, counting, layout_exit_same, to_text_exit_same, to_tree_exit_same, clear_list_exit_same, blank_exit_same, counting_same}
+use Rattle.mdf4.proofs.Paths.{origin, origins_back, layout_followed, path_leads, path_none}
+use Rattle.mdf4.proofs.Texts.{Shared, shared, counting, layout_exit_same, to_text_exit_same, to_tree_exit_same, path_exit_same, clear_list_exit_same, blank_exit_same, counting_same}
 
 -- an accepted call has made something, which rests on the layout
 pub record Accepted (n : Lent) (r : List ℕ) (m : Out Made) (c : Counts) : Type 0 where
@@ -72,6 +75,14 @@ module _ (n : Lent) (r : List ℕ) where
       let p = and_then_ok (to_tree r q.0) _ x q.2 in
       rw (← fitted_ok n.out q.0 p.0.1 p.0.0 x p.2) q.1
 
+  pub path_laid : (a : ℕ) (x : Made) → path_made a n r ≡ ok x → (laid n r ≡ ok x.layout) × (x.text ≡ path x.layout a)
+  unfolding path_made room
+  path_laid a x e =
+      let q = and_then_ok (laid n r) _ x e in
+      let p = check_ok _ _ _ _ q.2 in
+      let z : made q.0 [] (path q.0 a) ≡ x = cc in
+      rw (← z) (q.1, refl)
+
   -- the clear list's text is the CLR bytes of the layout's clear ranges
   pub clear_list_cleared : (x : Made) → clear_list_made n r ≡ ok x → (clearable n r ≡ ok x.layout) × (x.text ≡ clr_bytes (length r) (clear_ranges r x.layout))
   unfolding clear_list_made
@@ -103,6 +114,10 @@ module _ (n : Lent) (r : List ℕ) where
     to_tree_accepted : (to_tree_exit n r).answer ≡ ok c → Accepted n r (to_tree_made n r) c
     unfolding to_tree_exit
     to_tree_accepted e = accepted n r (to_tree_made n r) c e to_tree_laid
+
+    pub path_accepted : (a : ℕ) → (path_exit a n r).answer ≡ ok c → Accepted n r (path_made a n r) c
+    unfolding path_exit
+    path_accepted a e = accepted n r (path_made a n r) c e (λ x q. (path_laid a x q).0)
 
     pub clear_list_accepted : (clear_list_exit n r).answer ≡ ok c → Accepted n r (clear_list_made n r) c
     unfolding clear_list_exit
@@ -158,6 +173,9 @@ same_to_text = record { same = to_text_exit_same; laid = λ n r c e. let a = to_
 pub same_to_tree : Same to_tree_exit
 same_to_tree = record { same = to_tree_exit_same; laid = λ n r c e. let a = to_tree_accepted n r c e in (a.x.layout, a.laid_is) }
 
+pub same_path : (a : ℕ) → Same (path_exit a)
+same_path a = record { same = λ n r r' o e e' t. path_exit_same n r r' o e e' t a; laid = λ n r c e. let x = path_accepted n r c a e in (x.x.layout, x.laid_is) }
+
 pub same_clear_list : Same clear_list_exit
 same_clear_list = record { same = clear_list_exit_same; laid = λ n r c e. let a = clear_list_accepted n r c e in (a.x.layout, a.laid_is) }
 
@@ -201,6 +219,9 @@ to_text_again = again to_text_exit same_to_text
 
 pub to_tree_again : Again to_tree_exit
 to_tree_again = again to_tree_exit same_to_tree
+
+pub path_again : (a : ℕ) → Again (path_exit a)
+path_again a = again (path_exit a) (same_path a)
 
 pub clear_list_again : Again clear_list_exit
 clear_list_again = again clear_list_exit same_clear_list
@@ -264,9 +285,20 @@ module _ (n : Lent) (r : List ℕ) (m : Out Made) (c : Counts) (a : Accepted n r
   unfolding counts
   links_are = sym (ap (λ (k : Counts). k.links) a.counted)
 
-  pub target_is : (j : ℕ) → get_or (targets_in (exit n m) c) j 0 ≡ (get_or a.x.layout.state.links j null).target
+  targets_are : targets_in (exit n m) c ≡ map (λ (l : Link). l.target) a.x.layout.state.links
   unfolding targets_in exit filled
-  target_is j = rw (a.made_is, links_are, links_in) (get_or-map (λ (l : Link). l.target) a.x.layout.state.links j null)
+  targets_are = rw (a.made_is, links_are) (links_in a.x.layout.state.links _)
+
+  pub target_is : (j : ℕ) → get_or (targets_in (exit n m) c) j 0 ≡ (get_or a.x.layout.state.links j null).target
+  target_is j = rw targets_are (get_or-map (λ (l : Link). l.target) a.x.layout.state.links j null)
+
+  -- what the rows tell of links
+  pub origins_are : origins_in (exit n m) c ≡ map origin a.x.layout.blocks
+  unfolding origins_in exit filled
+  origins_are = rw (a.made_is, blocks_are) (origins_back a.x.printed a.x.layout.blocks _)
+
+  rows_are : length (origins_in (exit n m) c) ≡ c.blocks
+  rows_are = rw (origins_are, blocks_are) (length-map a.x.layout.blocks origin)
 
   tables : Tables r (exit n m) c
   tables = record {
@@ -274,6 +306,7 @@ module _ (n : Lent) (r : List ℕ) (m : Out Made) (c : Counts) (a : Accepted n r
     partition = λ i l. rw (extents_are, gaps_in_are) (partition (limits n) (n.gaps / pair_words) r a.x.layout is i l);
     gap = λ i l. rw (extents_are, gaps_in_are) (each_gap (limits n) (n.gaps / pair_words) r a.x.layout is i (rw (← gaps_are) l));
     add_up = rw (extents_are, gaps_in_are) (gaps_add_up (limits n) (n.gaps / pair_words) r a.x.layout is);
+    followed = rw (origins_are, targets_are) (layout_followed (limits n) (n.gaps / pair_words) r a.x.layout is);
   }
 
 module _ (n : Lent) (r : List ℕ) (c : Counts) where
@@ -289,6 +322,10 @@ module _ (n : Lent) (r : List ℕ) (c : Counts) where
   unfolding to_tree_exit
   to_tree_tables e = tables n r (to_tree_made n r) c (to_tree_accepted n r c (unfold to_tree_exit in e))
 
+  pub path_tables : (a : ℕ) → (path_exit a n r).answer ≡ ok c → Tables r (path_exit a n r) c
+  unfolding path_exit
+  path_tables a e = tables n r (path_made a n r) c (path_accepted n r c a (unfold path_exit in e))
+
   pub clear_list_tables : (clear_list_exit n r).answer ≡ ok c → Tables r (clear_list_exit n r) c
   unfolding clear_list_exit
   clear_list_tables e = tables n r (clear_list_made n r) c (clear_list_accepted n r c (unfold clear_list_exit in e))
@@ -301,14 +338,41 @@ module _ (n : Lent) (r : List ℕ) (c : Counts) where
   unfolding preview_exit preview_made counting
   preview_tables e = tables n r (counting (nonzero r) n r) c (preview_accepted n r c e)
 
--- The clear list's output
+-- What stands in an output
+
+bytes_are : (n : Lent) (r : List ℕ) (m : Out Made) (c : Counts) (a : Accepted n r m c) → c.bytes ≡ length a.x.text
+unfolding counts
+bytes_are n r m c a = sym (ap (λ (k : Counts). k.bytes) a.counted)
 
 pub written : (n : Lent) (r : List ℕ) (m : Out Made) (c : Counts) (a : Accepted n r m c) → take c.bytes (exit n m).out ≡ a.x.text
-unfolding exit filled counts
+unfolding exit filled
 written n r m c a =
-    let b : c.bytes ≡ length a.x.text = sym (ap (λ (k : Counts). k.bytes) a.counted) in
-    ap (λ (k : ℕ). take k (exit n m).out) b ∙ ap (λ (x : Out Made). take (length a.x.text) (exit n x).out) a.made_is ∙ take-append_seam a.x.text _
+    ap (λ (k : ℕ). take k (exit n m).out) (bytes_are n r m c a) ∙ ap (λ (x : Out Made). take (length a.x.text) (exit n x).out) a.made_is ∙ take-append_seam a.x.text _
 
+-- the path
+pub pathed : (a : ℕ) (n : Lent) (r : List ℕ) (c : Counts) → (path_exit a n r).answer ≡ ok c → Pathed a (path_exit a n r) c
+unfolding path_exit
+pathed a n r c e =
+    let m = path_made a n r in
+    let k = path_accepted n r c a (unfold path_exit in e) in
+    let p = path_laid n r a k.x k.made_is in
+    let y = k.x.layout in
+    let i = is n r m c k in
+    let w : take c.bytes (exit n m).out ≡ path y a = written n r m c k ∙ p.1 in
+    let b : c.bytes ≡ length (path y a) = bytes_are n r m c k ∙ ap length p.1 in
+    let o = origins_are n r m c k in
+    let s = rows_are n r m c k in
+    record {
+      listed = λ j l q d. rw (o, w) (path_leads (limits n) (n.gaps / pair_words) r y i j a (rw o at (rw (← s) at l)) (rw o at q) d);
+      unlisted = λ u. b ∙ ap length (path_none y a (none_of y (origins_in (exit n m) c) c.blocks s o u));
+    }
+  where
+    none_of : (y : Layout) (os : List Origin) (k : ℕ) → length os ≡ k → os ≡ map origin y.blocks → (a ≡ 0) ⊎ ((j : ℕ) → j < k → (origin_at os j).off ≡ a → ⊥)
+        → (a ≡ 0) ⊎ ((j : ℕ) → j < length (map origin y.blocks) → (origin_at (map origin y.blocks) j).off ≡ a → ⊥)
+    none_of y os k s o (inl z) = inl z
+    none_of y os k s o (inr h) = inr (λ j l q. h j (rw (← s, o) l) (rw o q))
+
+-- the clear list
 spared : (n : Lent) (r : List ℕ) (y : Layout) → laid n r ≡ ok y → layout (limits n) (n.gaps / pair_words) r ≡ ok y
     → (j : ℕ) → j < length y.state.links → Block r (get_or y.state.links j null).target → Spared n r (clear_ranges r y) (get_or y.state.links j null).target
 unfolding read read_by

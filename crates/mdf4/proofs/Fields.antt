@@ -76,7 +76,7 @@ pub num_below : (b : List ℕ) → ((i : ℕ) → get_or b i 0 < 256) → (a w :
 num_below b f a zero h = rw num_zero (omega arith)
 num_below b f a (suc w) h = rw (num_suc b a w (omega arith), pow-suc) (omega (arith, f a, num_below b f (suc a) w (omega arith)))
 
--- `read-len` is document 01's list of read bytes
+-- `read_len` is document 01's list of read bytes
 ends : (n : ℕ) (f : ℕ → ℕ) {x y : ℕ} → x ≡ y → 24 + 8 * n + 8 + f x ≡ 32 + 8 * n + f y
 ends n f e = rw e (omega arith)
 

@@ -12,7 +12,7 @@ use borrow.Author.Tests.{eqb-true, eqb-false}
 use Rattle.mdf4.specs.Bytes.{bytes, little, num}
 use Rattle.mdf4.specs.Act.{Refusal, refusal, Out, ok, err, and_then, check, State}
 use Rattle.mdf4.specs.Layout.{Layout, walk_state, layout_if, layout, finalized}
-use Rattle.mdf4.specs.Answers.{Lent, Counts, Made, limits, pair_words, exit, laid, laid_finalized, clearable, layout_made, to_text_made, to_tree_made, clear_list_made, blank_made, preview_made, layout_exit, to_text_exit, to_tree_exit, clear_list_exit, blank_exit, preview_exit}
+use Rattle.mdf4.specs.Answers.{Lent, Counts, Made, limits, pair_words, exit, laid, laid_finalized, clearable, layout_made, to_text_made, to_tree_made, path_made, clear_list_made, blank_made, preview_made, layout_exit, to_text_exit, to_tree_exit, path_exit, clear_list_exit, blank_exit, preview_exit}
 use Rattle.mdf4.specs.Demand3.{Unfinalized, Finalizing, Unasked}
 use Rattle.mdf4.proofs.Results.{never}
 use Rattle.mdf4.proofs.Fields.{num_suc}
@@ -156,3 +156,7 @@ to_text_unasked = unasked to_text_made (λ n r. low_and_then _ _ (low_laid n r) 
 pub to_tree_unasked : Unasked to_tree_exit
 unfolding to_tree_exit to_tree_made
 to_tree_unasked = unasked to_tree_made (λ n r. low_and_then _ _ (low_laid n r) (λ y. low_and_then _ _ (low_to_tree r y) (λ p. low_fitted _ y p.1 p.0)))
+
+pub path_unasked : (a : ℕ) → Unasked (path_exit a)
+unfolding path_exit path_made
+path_unasked a = unasked (path_made a) (λ n r. low_and_then _ _ (low_laid n r) (λ y. low_and_then _ _ (low_room _ _) (λ u. low_ok _)))

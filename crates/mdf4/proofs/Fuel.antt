@@ -8,10 +8,10 @@ use native.Mathlib.Omega.{arith}
 use lib.Dec.{eqb}
 use lib.ListN.{length}
 use borrow.Author.Tests.{eqb-false, ne_eqb, le-ltb, lt-ltb}
-use Rattle.mdf4.specs.Act.{refusal, Result, Stop, ok, err, and_then, check, Kind, CN, CG, DG, HD, State, Limits, Act, choose, pure, ◌>>=◌, ◌>>◌, elem, marked, visit, once, chain}
+use Rattle.mdf4.specs.Act.{refusal, Result, Stop, ok, err, and_then, check, Kind, CN, CG, DG, HD, State, Limits, Act, choose, pure, ◌>>=◌, ◌>>◌, elem, marked, visit, once, chain, following, by_link}
 use Rattle.mdf4.specs.Bytes.{num}
 use Rattle.mdf4.specs.Kinds.{no_records}
-use Rattle.mdf4.specs.Walk.{Handed, addr, walk_channel, walk_channel_group, walk_data_group, walk_header, walk_identification, start, walk}
+use Rattle.mdf4.specs.Walk.{Handed, addr, walk_channel, walk_channel_group, walk_data_group, Block, walk_from_header, walk_header, walk_identification, start, walk}
 use Rattle.mdf4.proofs.Results.{and_then_ok, ok_both}
 use Rattle.mdf4.proofs.Walk.{shapes, good_walk_text_like, good_walk_source, good_walk_conversion, good_walk_data_region, good_walk_channel, good_walk_channel_group, good_walk_data_group, good_walk_identification}
 use Rattle.mdf4.proofs.Good.{Good, Any, Ready, visit_is, visit_room, marked_length, lent_is, good_enter}
@@ -157,6 +157,10 @@ equal_then : {A B : Type 0} (bound : ℕ) (P : State → Type 0) (m m' : Act A) 
 unfolding ◌>>=◌ ◌>>◌
 equal_then bound P m m' n n' g e h = equal_bind bound P m m' (λ a. n) (λ a. n') g e (λ a. h)
 
+equal_by_link : {A : Type 0} (bound a n : ℕ) (m m' : Act A) → Equal bound m m' → Equal bound (by_link a n m) (by_link a n m')
+unfolding by_link following
+equal_by_link bound a n m m' e = record { eq = λ r s l b. e.eq r (following a n s) l b }
+
 equal_once : {A : Type 0} (bound : ℕ) (k : Kind) (a : ℕ) (x : A) (m m' : Act A) → Equal bound m m' → Equal bound (once k a x m) (once k a x m')
 unfolding once ◌>>◌
 equal_once bound k a x m m' e = record {
@@ -193,22 +197,25 @@ module _ (bound fuel fuel' : ℕ) (h : bound ≤ fuel) (h' : bound ≤ fuel') wh
   equal_channel_group rid a got = equal_once bound CG a _ _ _ (equal_bind bound (Ready a) _ _ _ _ (good_enter CG a (no_records rid)) (equal_same bound _) (λ b.
       equal_then bound Any _ _ _ _ (search (shapes, good_walk_text_like, good_walk_source, good_walk_channel) depth 20)
       (equal_then bound Any _ _ _ _ (search (shapes, good_walk_text_like, good_walk_source) depth 20) (equal_same bound _)
-      (equal_chain bound walk_channel walk_channel walk_channel_moves (λ a b. equal_same bound _) fuel fuel' (addr b 1) tt h h'))
+      (equal_by_link bound a 1 _ _ (equal_chain bound walk_channel walk_channel walk_channel_moves (λ a b. equal_same bound _) fuel fuel' (addr b 1) tt h h')))
       (equal_same bound _)))
 
   equal_data_group : (a : ℕ) (u : Unit {0}) → Equal bound (walk_data_group fuel a u) (walk_data_group fuel' a u)
   unfolding walk_data_group
   equal_data_group a u = equal_once bound DG a _ _ _ (equal_bind bound (Ready a) _ _ _ _ (good_enter DG a (no_records 0)) (equal_same bound _) (λ b.
       equal_bind bound Any _ _ _ _ (search (shapes, good_walk_text_like, good_walk_channel_group) depth 20)
-      (equal_then bound Any _ _ _ _ (good_walk_text_like (addr b 3)) (equal_same bound _)
-      (equal_chain bound _ _ (walk_channel_group_moves fuel (num b.0 56 1)) (equal_channel_group (num b.0 56 1)) fuel fuel' (addr b 1) _ h h'))
+      (equal_then bound Any _ _ _ _ (search (shapes, good_walk_text_like)) (equal_same bound _)
+      (equal_by_link bound a 1 _ _ (equal_chain bound _ _ (walk_channel_group_moves fuel (num b.0 56 1)) (equal_channel_group (num b.0 56 1)) fuel fuel' (addr b 1) _ h h')))
       (λ got. equal_same bound _)))
+
+  equal_walk_from_header : (b : Block) → Equal bound (walk_from_header fuel b) (walk_from_header fuel' b)
+  unfolding walk_from_header
+  equal_walk_from_header b = equal_then bound Any _ _ _ _ (search (shapes, good_walk_text_like)) (equal_same bound _)
+      (equal_by_link bound 64 0 _ _ (equal_chain bound _ _ (walk_data_group_moves fuel) equal_data_group fuel fuel' (addr b 0) tt h h'))
 
   equal_header : Equal bound (walk_header fuel) (walk_header fuel')
   unfolding walk_header
-  equal_header = equal_once bound HD 64 _ _ _ (equal_bind bound (Ready 64) _ _ _ _ (good_enter HD 64 (no_records 0)) (equal_same bound _) (λ b.
-      equal_then bound Any _ _ _ _ (good_walk_text_like (addr b 5)) (equal_same bound _)
-      (equal_chain bound _ _ (walk_data_group_moves fuel) equal_data_group fuel fuel' (addr b 0) tt h h')))
+  equal_header = equal_once bound HD 64 _ _ _ (equal_bind bound (Ready 64) _ _ _ _ (good_enter HD 64 (no_records 0)) (equal_same bound _) equal_walk_from_header)
 
 -- the walk with any fuel that reaches its limit
 pub walk_fuel : (lim : Limits) (r : List ℕ) (fuel : ℕ) → lim.visited ≤ fuel → walk r (start lim) ≡ (walk_identification >> walk_header fuel) r (start lim)

@@ -10,7 +10,7 @@ use lib.ListN.{length, get_or, take, drop, length-append, length-drop}
 use lib.Seq.{drop-append-le, take-append-le, drop-append_seam, take-length}
 use borrow.Author.Tests.{ltb-true, eqb-true, eqb-false, ne_eqb, eq-eqb}
 use Rattle.mdf4.specs.Bytes.{bytes, within, inside}
-use Rattle.mdf4.specs.Act.{Refusal, Result, Stop, stopped, Out, ok, err, and_then, check, Kind, Row, Link, State, Limits, Act, choose, pure, stop, ◌>>=◌, ◌>>◌, sized, elem, marked, visit, once, seen, chain, each, raise}
+use Rattle.mdf4.specs.Act.{Refusal, Result, Stop, stopped, Out, ok, err, and_then, check, Kind, Row, Link, State, Limits, Act, choose, pure, stop, ◌>>=◌, ◌>>◌, sized, elem, marked, visit, once, seen, chain, raise, following, by_link, each_link}
 use Rattle.mdf4.specs.Kinds.{RecordLayout, read_len, read_block, make_link, name_ok, shape}
 use Rattle.mdf4.specs.Walk.{row_of, push, after_reading, list_block, enter}
 use Rattle.mdf4.specs.Reads.{row_ranges, ranges_at, links_at, read_ranges}
@@ -197,10 +197,35 @@ unfolding chain
 good_chain zero f g a b = good_choose Any (eqb a 0) _ _ (good_pure b) (good_bind Any _ _ (g a b) (λ p. good_pure p.1))
 good_chain (suc n) f g a b = good_choose Any (eqb a 0) _ _ (good_pure b) (good_bind Any _ _ (g a b) (λ p. good_chain n f g p.0 p.1))
 
-pub good_each : {A : Type 0} (f : A → Act (Unit {0})) → ((a : A) → Good Any (f a)) → (xs : List A) → Good Any (each f xs)
-unfolding each
-good_each f g [] = good_pure tt
-good_each f g (x ∷ xs) = good_then Any (f x) (each f xs) (g x) (good_each f g xs)
+-- following a link
+following_inv : (a n : ℕ) (r : List ℕ) (s : State) → Inv r s → Inv r (following a n s)
+unfolding following
+following_inv a n r s v = record { known = v.known; apart = v.apart; tidy = v.tidy; table = v.table; placed = v.placed; readable = v.readable }
+
+following_reads : (a n : ℕ) (r : List ℕ) (s : State) → read_ranges r (following a n s) ≡ read_ranges r s
+unfolding read_ranges following
+following_reads a n r s = refl
+
+pub good_by_link : {A : Type 0} (a n : ℕ) (m : Act A) → Good Any m → Good Any (by_link a n m)
+unfolding by_link following lending
+good_by_link a n m g = record {
+  went = λ r s x s' e.
+      let w = g.went r (following a n s) x s' e in
+      record {
+        grows = λ i h. w.grows i (rw following_reads h);
+        keeps = λ p i. w.keeps tt (following_inv a n r s i);
+        longer = w.longer;
+        fits = w.fits;
+        kept = w.kept;
+        listed = w.listed;
+        other = w.other;
+      };
+}
+
+pub good_each_link : (a i : ℕ) (f : Link → Act (Unit {0})) → ((l : Link) → Good Any (f l)) → (ls : List Link) → Good Any (each_link a i f ls)
+unfolding each_link
+good_each_link a i f g [] = good_pure tt
+good_each_link a i f g (l ∷ ls) = good_then Any (by_link a i (f l)) (each_link a (suc i) f ls) (good_by_link a i (f l) (g l)) (good_each_link a (suc i) f g ls)
 
 -- marking an offset that was not visited
 module _ (a : ℕ) (r : List ℕ) (s : State) (new : elem a s.visited ≡ false) where
@@ -376,6 +401,15 @@ module _ (k : Kind) (a : ℕ) (h : RecordLayout) (r : List ℕ) (s : State) wher
       listed = λ x q. rw its_state (unfold pushed push in (rw (offs_snoc, elem_snoc) (or_left _ _ q)));
       other = enter_other;
     }
+
+-- an entered block answers its links, and its row is pushed
+pub entered_row : (k : Kind) (a : ℕ) (h : RecordLayout) (r : List ℕ) (s : State) (x : List ℕ × List Link) (s' : State) → enter k a h r s ≡ ok (x, s')
+    → (o : List ℕ) × (x.1 ≡ links_at r k a) × (s' ≡ push k (row_of k a h s o x.1) x.1 s)
+unfolding own_links block_bytes links_at
+entered_row k a h r s x s' e =
+    let q = after_is k a h s (block_bytes k a h r s) (own_links k a h r s) _ x s' (its_after k a h r s x s' e) in
+    let l : x.1 ≡ own_links k a h r s = ap (λ (p : List ℕ × List Link). p.1) q.0 in
+    (block_bytes k a h r s, l, rw l q.1)
 
 -- an entered block is listed
 pub enter_listed : (k : Kind) (a : ℕ) (h : RecordLayout) (r : List ℕ) (s : State) (x : List ℕ × List Link) (s' : State) → enter k a h r s ≡ ok (x, s') → elem a (offs s'.rows) ≡ true

@@ -6,12 +6,15 @@ pub mod Reading
 pub mod Good
 pub mod Walk
 pub mod Fuel
+pub mod Trails
+pub mod Forgotten
 pub mod Order
 pub mod Gaps
 pub mod Runs
 pub mod Fields
 pub mod Linked
 pub mod Laid
+pub mod Paths
 pub mod Numbers
 pub mod Finalized
 pub mod Texts

@@ -9,10 +9,10 @@ use lib.Dec.{ltb, eqb}
 use lib.ListN.{length}
 use Rattle.utf8.specs.Utf8.{between}
 use Rattle.mdf4.specs.Bytes.{bytes}
-use Rattle.mdf4.specs.Act.{Refusal, refusal, Result, Out, ok, err, and_then, check, Stop, Kind, ID, CN, Row, Link, State, Limits, Act, pure, stop, raise, reason, ◌>>=◌, ◌>>◌, choose, sized, elem, seen, visit, once, chain, each}
+use Rattle.mdf4.specs.Act.{Refusal, refusal, Result, Out, ok, err, and_then, check, Stop, Kind, ID, CN, Row, Link, State, Limits, Act, pure, stop, raise, reason, ◌>>=◌, ◌>>◌, choose, sized, elem, seen, visit, once, chain, following, by_link, each_link}
 use Rattle.mdf4.specs.Kinds.{block_len, is, RecordLayout, no_records, read_of, read_block, name_link, name_is_text, name_head, name_check, name_ok}
 use Rattle.mdf4.specs.Version.{number, numeral, parse_u16, parse_minor, version}
-use Rattle.mdf4.specs.Walk.{content_ok, targets_ok, after_reading, list_block, enter, text_kind, enter_text, walk_text_like, walk_source, walk_conversion, record_data_block, record_unknown_block, walk_data_block, walk_data_list, list_too_deep, walk_data_region, walk_channel, walk_channel_group, walk_data_group, walk_header, walk_identification, start, walk, Handed}
+use Rattle.mdf4.specs.Walk.{content_ok, targets_ok, after_reading, list_block, enter, text_kind, enter_text, walk_text_like, walk_source, walk_conversion, record_data_block, record_unknown_block, walk_data_block, walk_data_list, list_too_deep, walk_data_region, walk_channel, walk_channel_group, walk_data_group, walk_from_header, walk_header, walk_identification, start, walk, Handed}
 use Rattle.mdf4.specs.Layout.{Layout, layout_of, walk_state, gaps_fitted, layout_if}
 use Rattle.mdf4.specs.Tree.{Edge, root, Printed, Child, max_levels, before, render_children, node_by, render_tree_node, root_by, roots, to_tree}
 use Rattle.mdf4.specs.Answers.{Lent, Made, exit, room, fitted}
@@ -189,16 +189,20 @@ unfolding chain
 low_chain zero f l a b = low_choose (eqb a 0) _ _ (low_pure b) (low_bind _ _ (l a b) (λ p. low_pure p.1))
 low_chain (suc n) f l a b = low_choose (eqb a 0) _ _ (low_pure b) (low_bind _ _ (l a b) (λ p. low_chain n f l p.0 p.1))
 
-low_each : {A : Type 0} (f : A → Act (Unit {0})) → ((a : A) → LowStep (f a)) → (xs : List A) → LowStep (each f xs)
-unfolding each
-low_each f l [] = low_pure tt
-low_each f l (x ∷ xs) = low_then (f x) (each f xs) (l x) (low_each f l xs)
+low_by_link : {A : Type 0} (a n : ℕ) (m : Act A) → LowStep m → LowStep (by_link a n m)
+unfolding by_link
+low_by_link a n m l = record { at = λ r s. l.at r (following a n s) }
+
+low_each_link : (a i : ℕ) (f : Link → Act (Unit {0})) → ((l : Link) → LowStep (f l)) → (ls : List Link) → LowStep (each_link a i f ls)
+unfolding each_link
+low_each_link a i f g [] = low_pure tt
+low_each_link a i f g (l ∷ ls) = low_then (by_link a i (f l)) (each_link a (suc i) f ls) (low_by_link a i (f l) (g l)) (low_each_link a (suc i) f g ls)
 
 low_enter : (k : Kind) (a : ℕ) (h : RecordLayout) → LowStep (enter k a h)
 unfolding enter
 low_enter k a h = record { at = λ r s. low_raise k a s (list_block k a h r s) (low_list_block k a h r s) }
 
-ruleset low_steps = (low_pure, stop_7, stop_9, stop_15, low_bind, low_then, low_choose, low_sized, low_seen, low_chain, low_each, low_once, low_enter)
+ruleset low_steps = (low_pure, stop_7, stop_9, stop_15, low_bind, low_then, low_choose, low_sized, low_seen, low_chain, low_by_link, low_each_link, low_once, low_enter)
 
 -- the walk, function by function
 low_enter_text : (a : ℕ) → LowStep (enter_text a)
@@ -257,7 +261,7 @@ unfolding walk_data_group
 low_walk_data_group fuel a u = search (low_steps, low_walk_text_like, low_walk_channel_group, low_walk_data_region) depth 20
 
 low_walk_header : (fuel : ℕ) → LowStep (walk_header fuel)
-unfolding walk_header
+unfolding walk_header walk_from_header
 low_walk_header fuel = search (low_steps, low_walk_text_like, low_walk_data_group) depth 20
 
 low_walk_identification : LowStep walk_identification

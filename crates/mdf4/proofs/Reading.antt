@@ -113,6 +113,8 @@ lending lim s = record {
   dg_counter = s.dg_counter;
   cg_counter = s.cg_counter;
   cn_counter = s.cn_counter;
+  from_block = s.from_block;
+  from_link = s.from_link;
   lent = lim;
 }
 

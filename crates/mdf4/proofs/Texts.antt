@@ -17,7 +17,7 @@ use Rattle.mdf4.specs.Clear.{clear_ranges}
 use Rattle.mdf4.specs.Describe.{name_bytes, block_bytes, row_name, describe, extra_line}
 use Rattle.mdf4.specs.Listing.{row_lines, block_links, links_of, to_text}
 use Rattle.mdf4.specs.Tree.{Edge, root, Child, child_at, child_of, children, Printed, render_children, node_line, node_by, render_tree_node, root_by, roots, to_tree, max_levels}
-use Rattle.mdf4.specs.Answers.{Lent, limits, laid, laid_finalized, room, clearable, Made, exit, counted, layout_made, to_text_made, to_tree_made, clear_list_made, blank_made, layout_exit, to_text_exit, to_tree_exit, clear_list_exit, blank_exit, pair_words}
+use Rattle.mdf4.specs.Answers.{Lent, limits, laid, laid_finalized, room, clearable, Made, exit, counted, layout_made, to_text_made, to_tree_made, path_made, clear_list_made, blank_made, layout_exit, to_text_exit, to_tree_exit, path_exit, clear_list_exit, blank_exit, pair_words}
 use Rattle.mdf4.proofs.Bytes.{inside_append, or_left, or_right, bytes_agree, concat_map_inside}
 use Rattle.mdf4.proofs.Reading.{row_links, Agree, within_in, read_len_same, block_bytes_same, links_at_same, name_head_same, own_agree, spared_ranges_same}
 use Rattle.mdf4.proofs.Lists.{All, all_append, all_map}
@@ -275,6 +275,10 @@ module _ (n : Lent) (r r' : List ℕ) (o : Out State) (e : walk_state (limits n)
   pub to_tree_exit_same : to_tree_exit n r ≡ to_tree_exit n r'
   unfolding to_tree_exit to_tree_made laid layout
   to_tree_exit_same = ap (exit n) (laid_then _ _ _ _ (λ s t. refl) (λ s q. rw (to_tree_same r r' (layout_of r s) (t s q).size (blocks_told r r' s (t s q)))))
+
+  pub path_exit_same : (a : ℕ) → path_exit a n r ≡ path_exit a n r'
+  unfolding path_exit path_made laid layout
+  path_exit_same a = ap (exit n) (laid_then _ _ _ _ (λ s t. refl) (λ s q. refl))
 
   pub clear_list_exit_same : clear_list_exit n r ≡ clear_list_exit n r'
   unfolding clear_list_exit clear_list_made

@@ -9,12 +9,12 @@ use lib.ListN.{length}
 use Rattle.mdf4.specs.Bytes.{bytes}
 use Rattle.mdf4.specs.Act.{refusal, Result, Stop, ok, and_then, Kind, ID, UT, UD, Link, State, Limits, Act, choose, pure, ◌>>◌, elem, visit, once}
 use Rattle.mdf4.specs.Kinds.{RecordLayout, no_records, shape, is, rest, read_len}
-use Rattle.mdf4.specs.Walk.{enter, text_kind, enter_text, walk_text_like, walk_source, walk_conversion, record_data_block, record_unknown_block, walk_data_block, walk_data_region, walk_channel, walk_channel_group, walk_data_group, walk_header, start, walk_identification, walk, walk_data_list, list_too_deep, Handed, Block}
+use Rattle.mdf4.specs.Walk.{enter, text_kind, enter_text, walk_text_like, walk_source, walk_conversion, record_data_block, record_unknown_block, walk_data_block, walk_data_region, walk_channel, walk_channel_group, walk_data_group, walk_header, start, walk_identification, walk, walk_data_list, list_too_deep, Handed, Block, walk_from_header}
 use Rattle.mdf4.proofs.Results.{and_then_ok, ok_both, on, both_then}
 use Rattle.mdf4.proofs.Reading.{row_links, Reads, Agree, lending}
-use Rattle.mdf4.proofs.Good.{Good, Any, Ready, Inv, again, good_pure, good_stop, good_bind, good_then, good_choose, good_sized, good_seen, good_weaken, good_chain, good_each, good_once, good_enter, enter_head, enter_listed, enter_whole, enter_reads, offs}
+use Rattle.mdf4.proofs.Good.{Good, Any, Ready, Inv, again, good_pure, good_stop, good_bind, good_then, good_choose, good_sized, good_seen, good_weaken, good_chain, good_by_link, good_each_link, good_once, good_enter, enter_head, enter_listed, enter_whole, enter_reads, offs}
 
-pub ruleset shapes = (good_pure, good_stop, good_bind, good_then, good_choose, good_sized, good_seen, good_chain, good_each, good_once, good_enter)
+pub ruleset shapes = (good_pure, good_stop, good_bind, good_then, good_choose, good_sized, good_seen, good_chain, good_by_link, good_each_link, good_once, good_enter)
 
 pub good_enter_text : (a : ℕ) → Good (Ready a) (enter_text a)
 unfolding enter_text and_then
@@ -91,9 +91,13 @@ pub good_walk_data_group : (fuel a : ℕ) (u : Unit {0}) → Good Any (walk_data
 unfolding walk_data_group
 good_walk_data_group fuel a u = search (shapes, good_walk_text_like, good_walk_channel_group, good_walk_data_region) depth 20
 
+good_walk_from_header : (fuel : ℕ) (b : Block) → Good Any (walk_from_header fuel b)
+unfolding walk_from_header
+good_walk_from_header fuel b = search (shapes, good_walk_text_like, good_walk_data_group) depth 20
+
 pub good_walk_header : (fuel : ℕ) → Good Any (walk_header fuel)
 unfolding walk_header
-good_walk_header fuel = search (shapes, good_walk_text_like, good_walk_data_group) depth 20
+good_walk_header fuel = search (shapes, good_walk_from_header) depth 12
 
 pub good_walk_identification : Good Any walk_identification
 unfolding walk_identification

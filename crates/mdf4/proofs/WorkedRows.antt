@@ -81,8 +81,8 @@ three_records =
 -- L's block rows; the tree mark is 1 after a tree
 unfoldable pub L_rows : ℕ → List ℕ
 L_rows tree_mark =
-    0 ∷ 64 ∷ 64 ∷ 0x44492323 ∷ 1 ∷ 0 ∷ 0 ∷ 0 ∷ 0 ∷ 0 ∷ 0 ∷ tree_mark
-    ∷ 64 ∷ 168 ∷ 104 ∷ 0x44482323 ∷ 2 ∷ 0 ∷ 0 ∷ 6 ∷ 0 ∷ 0 ∷ 0 ∷ tree_mark ∷ []
+    0 ∷ 64 ∷ 64 ∷ 0x44492323 ∷ 1 ∷ 0 ∷ 0 ∷ 0 ∷ 0 ∷ 0 ∷ 0 ∷ tree_mark ∷ 0 ∷ 0
+    ∷ 64 ∷ 168 ∷ 104 ∷ 0x44482323 ∷ 2 ∷ 0 ∷ 0 ∷ 6 ∷ 0 ∷ 0 ∷ 0 ∷ tree_mark ∷ 0 ∷ 0 ∷ []
 
 -- what L leaves in tables lent exactly: the tree mark, the words of the scratch table, and the output's length and bytes
 unfoldable pub L_leaves : ℕ → ℕ → ℕ → List ℕ → Value
@@ -158,10 +158,10 @@ rows =
     -- "Time zone bytes 00 80 hex print -32768.": bytes 80 and 81 of a header
     ∷ row (block (ascii "##HD") 104 6 (replicate 56 0 ++ 0x00 ∷ 0x80 ∷ replicate 22 0)) (description HD 0) (bytes (ascii "Header Block (abs_time=0 ns, tz=-32768 min)"))
     -- L: its layout, its listing byte for byte, "Its tree is two root lines, ID then HD.", and no clear byte
-    ∷ row L (layout (lent 2 24 12 0 0 0)) (L_leaves 0 0 0 [])
-    ∷ row L (listing (lent 2 24 12 0 0 996)) (L_leaves 0 0 996 L_listing)
-    ∷ row L (tree (lent 2 24 12 0 0 134)) (L_leaves 1 0 134 L_tree)
-    ∷ row L (clear_list (lent 2 24 12 0 4 24)) (L_leaves 0 4 24 (ascii "CLR" ++ 1 ∷ 0 ∷ 0 ∷ 0 ∷ 0 ∷ 168 ∷ replicate 15 0))
+    ∷ row L (layout (lent 2 28 12 0 0 0)) (L_leaves 0 0 0 [])
+    ∷ row L (listing (lent 2 28 12 0 0 996)) (L_leaves 0 0 996 L_listing)
+    ∷ row L (tree (lent 2 28 12 0 0 134)) (L_leaves 1 0 134 L_tree)
+    ∷ row L (clear_list (lent 2 28 12 0 4 24)) (L_leaves 0 4 24 (ascii "CLR" ++ 1 ∷ 0 ∷ 0 ∷ 0 ∷ 0 ∷ 168 ∷ replicate 15 0))
     ∷ []
 
 abbrev pub Holds : Worked → Type 0

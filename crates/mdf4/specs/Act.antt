@@ -32,7 +32,8 @@ check false e = err e
 pub data Kind : Type 0 where
   ID HD DG CG CN SI TX MD DT SD DL UT UD : Kind
 
--- a row of the block table, but for the tree mark; the words that a kind lacks are 0
+-- a row of the block table, but for the tree mark; the words that a kind lacks are 0. The last two (document 02, order 3) are the offset
+-- of the block whose link was followed when the row was listed, and that link's position among those shown
 pub record Row : Type 0 where
   pub off : ℕ
   pub end : ℕ
@@ -45,6 +46,8 @@ pub record Row : Type 0 where
   pub record_size : ℕ
   pub invalidation_bytes : ℕ
   pub record_id_len : ℕ
+  pub from_block : ℕ
+  pub from_link : ℕ
 
 -- a row of the link table: target, then 0 or 1 + the mark found there
 pub record Link : Type 0 where
@@ -57,7 +60,8 @@ pub record Limits : Type 0 where
   pub blocks : ℕ
   pub links : ℕ
 
--- the Rust's `Walker`: offsets visited, rows and links in the order of the walk, the counters behind the indexes
+-- the Rust's `Walker`: offsets visited, rows and links in the order of the walk, the counters behind the indexes, the link that is
+-- being followed
 pub record State : Type 0 where
   pub visited : List ℕ
   pub rows : List Row
@@ -65,6 +69,8 @@ pub record State : Type 0 where
   pub dg_counter : ℕ
   pub cg_counter : ℕ
   pub cn_counter : ℕ
+  pub from_block : ℕ
+  pub from_link : ℕ
   pub lent : Limits
 
 -- a refusal of the walk: what it answers, the state so far, and the block being entered
@@ -126,6 +132,8 @@ marked a s = record {
   dg_counter = s.dg_counter;
   cg_counter = s.cg_counter;
   cn_counter = s.cn_counter;
+  from_block = s.from_block;
+  from_link = s.from_link;
   lent = s.lent;
 }
 
@@ -143,6 +151,25 @@ unfoldable pub chain : {B : Type 0} → ℕ → (ℕ → B → Act (ℕ × B)) �
 chain zero f a b = choose (eqb a 0) (pure b) (f a b >>= λ p. pure p.1)
 chain (suc n) f a b = choose (eqb a 0) (pure b) (f a b >>= λ p. chain n f p.0 p.1)
 
-unfoldable pub each : {A : Type 0} → (A → Act (Unit {0})) → List A → Act (Unit {0})
-each f [] = pure tt
-each f (x ∷ xs) = f x >> each f xs
+-- the state in which the n-th link of the block at a is being followed
+unfoldable pub following : ℕ → ℕ → State → State
+following a n s = record {
+  visited = s.visited;
+  rows = s.rows;
+  links = s.links;
+  dg_counter = s.dg_counter;
+  cg_counter = s.cg_counter;
+  cn_counter = s.cn_counter;
+  from_block = a;
+  from_link = n;
+  lent = s.lent;
+}
+
+-- the step m follows the n-th link of the block at a
+unfoldable pub by_link : {A : Type 0} → ℕ → ℕ → Act A → Act A
+by_link a n m r s = m r (following a n s)
+
+-- follows each of the links of the block at a, from the i-th on
+unfoldable pub each_link : ℕ → ℕ → (Link → Act (Unit {0})) → List Link → Act (Unit {0})
+each_link a i f [] = pure tt
+each_link a i f (l ∷ ls) = by_link a i (f l) >> each_link a (suc i) f ls

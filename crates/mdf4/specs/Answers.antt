@@ -9,9 +9,10 @@ use Rattle.mdf4.specs.Clear.{clear_ranges, clr_bytes}
 use Rattle.mdf4.specs.Blank.{zeroed, nonzero}
 use Rattle.mdf4.specs.Listing.{to_text}
 use Rattle.mdf4.specs.Tree.{to_tree}
+use Rattle.mdf4.specs.Paths.{path}
 
--- lengths lent: words of each table, bytes of the output; the preview's output is its table of counts, in words. What an entry does
--- not take has length 0.
+-- lengths lent: words of each table, bytes of the output; the output of path is its table of offsets, that of the preview its table of
+-- counts, both in words. What an entry does not take has length 0.
 pub record Lent : Type 0 where
   pub visited : ℕ
   pub blocks : ℕ
@@ -22,7 +23,7 @@ pub record Lent : Type 0 where
 
 -- words of a row of the block table, and of a row of the link, gap or scratch table; the visited table has one
 abbrev pub block_row_words : ℕ
-block_row_words = 12
+block_row_words = 14
 
 abbrev pub pair_words : ℕ
 pair_words = 2
@@ -31,7 +32,8 @@ pair_words = 2
 unfoldable pub limits : Lent → Limits
 limits n = record { visited = n.visited; blocks = n.blocks / block_row_words; links = n.links / pair_words }
 
--- an accepted call answers the rows of each table, the bytes of the output or the number of the preview's counts, and the counts' total
+-- an accepted call answers the rows of each table; the bytes of the output, the words of a path or the number of the preview's counts;
+-- and the counts' total
 pub record Counts : Type 0 where
   pub visited : ℕ
   pub blocks : ℕ
@@ -50,7 +52,8 @@ pub record Exit : Type 0 where
   pub scratch : List ℕ
   pub out : List ℕ
 
--- what an entry that accepts has made: the layout, the offsets its tree has printed, its text, CLR bytes or counts, the counts' total
+-- what an entry that accepts has made: the layout, the offsets its tree has printed, its text, path, CLR bytes or counts, the counts'
+-- total
 pub record Made : Type 0 where
   pub layout : Layout
   pub printed : List ℕ
@@ -60,11 +63,11 @@ pub record Made : Type 0 where
 abbrev pub made : Layout → List ℕ → List ℕ → Made
 made y v t = record { layout = y; printed = v; text = t; total = 0 }
 
--- rows as words; the last word of a block row is the tree mark
+-- rows as words; behind a block row's twelfth word, the tree mark, stand the two of the link that led to it
 unfoldable pub row_words : List ℕ → Row → List ℕ
 row_words v w =
     w.off ∷ w.end ∷ w.size ∷ w.mark ∷ (shape w.kind).number ∷ w.index ∷ w.first_link ∷ w.link_count ∷ w.record_size ∷ w.invalidation_bytes
-    ∷ w.record_id_len ∷ bit (elem w.off v) ∷ []
+    ∷ w.record_id_len ∷ bit (elem w.off v) ∷ w.from_block ∷ w.from_link ∷ []
 
 unfoldable pub link_words : Link → List ℕ
 link_words l = l.target ∷ l.found ∷ []
@@ -128,7 +131,7 @@ clearable n r = and_then (laid_finalized n r) (λ y. and_then (room (n.scratch /
 unfoldable pub fitted : ℕ → Layout → List ℕ → List ℕ → Out Made
 fitted n y v t = and_then (check (leb (length t) n) (refusal 14 0 n (min (length t) u64_max))) (λ u. ok (made y v t))
 
--- the entries: layout, listing, tree, clear list, blanker, preview
+-- the entries: layout, listing, tree, path, clear list, blanker, preview
 unfoldable pub layout_made : Lent → List ℕ → Out Made
 layout_made n r = and_then (laid n r) (λ y. ok (made y [] []))
 
@@ -138,10 +141,14 @@ to_text_made n r = and_then (laid n r) (λ y. fitted n.out y [] (to_text r y))
 unfoldable pub to_tree_made : Lent → List ℕ → Out Made
 to_tree_made n r = and_then (laid n r) (λ y. and_then (to_tree r y) (λ p. fitted n.out y p.1 p.0))
 
+-- the path to the block at a (document 02, order 3), refusal 13 where it does not fit
+unfoldable pub path_made : ℕ → Lent → List ℕ → Out Made
+path_made a n r = and_then (laid n r) (λ y. and_then (room n.out (length (path y a))) (λ u. ok (made y [] (path y a))))
+
 unfoldable pub clear_list_made : Lent → List ℕ → Out Made
 clear_list_made n r = and_then (clearable n r) (λ y. fitted n.out y [] (clr_bytes (length r) (clear_ranges r y)))
 
--- the blanker's tables (document 02, order 5); what it leaves in the recording is `blank-recording`
+-- the blanker's tables (document 02, order 5); what it leaves in the recording is `blank_recording`
 unfoldable pub blank_made : Lent → List ℕ → Out Made
 blank_made n r = and_then (clearable n r) (λ y. ok (made y [] []))
 
@@ -161,6 +168,9 @@ to_text_exit n r = exit n (to_text_made n r)
 
 unfoldable pub to_tree_exit : Lent → List ℕ → Exit
 to_tree_exit n r = exit n (to_tree_made n r)
+
+unfoldable pub path_exit : ℕ → Lent → List ℕ → Exit
+path_exit a n r = exit n (path_made a n r)
 
 unfoldable pub clear_list_exit : Lent → List ℕ → Exit
 clear_list_exit n r = exit n (clear_list_made n r)

@@ -71,7 +71,7 @@ uncounted e = record {
 unfoldable pub preview_uncounted : Lent → List ℕ → Exit
 preview_uncounted n r = uncounted (preview_exit n r)
 
--- After a blanking the preview counts 0 throughout; `After preview-uncounted` says that it is otherwise what it was before.
+-- After a blanking the preview counts 0 throughout; `After preview_uncounted` says that it is otherwise what it was before.
 pub record Idle : Type 0 where
   pub out : (n : Lent) (r : List ℕ) (c : Counts) → (blank_exit n r).answer ≡ ok c → (n' : Lent) → (preview_exit n' (blank_recording n r)).out ≡ replicate n'.out 0
   pub total : (n : Lent) (r : List ℕ) (c : Counts) → (blank_exit n r).answer ≡ ok c → (n' : Lent) (c' : Counts) → (preview_exit n' (blank_recording n r)).answer ≡ ok c' → c'.total ≡ 0

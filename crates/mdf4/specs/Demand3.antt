@@ -6,6 +6,7 @@ use Rattle.mdf4.specs.Act.{Refusal, refusal, Out, ok, err, State, elem}
 use Rattle.mdf4.specs.Reads.{read_ranges, kept_ranges}
 use Rattle.mdf4.specs.Layout.{Layout, walk_state}
 use Rattle.mdf4.specs.Clear.{clr_bytes}
+use Rattle.mdf4.specs.Walk.{header_at}
 use Rattle.mdf4.specs.Answers.{Lent, Counts, Exit, limits, laid, block_row_words, pair_words}
 
 -- the read bytes of a recording that is accepted with these lent lengths
@@ -58,6 +59,46 @@ unfoldable pub sizes : List Range → ℕ
 sizes [] = 0
 sizes (p ∷ ps) = (p.1 - p.0) + sizes ps
 
+-- what a row of the block table tells of links (document 02, order 3): its offset, where its own stand in the link table, and which
+-- one the walk followed when it listed the row: the block that it belongs to, and its position among those shown
+pub record Origin : Type 0 where
+  pub off : ℕ
+  pub first_link : ℕ
+  pub link_count : ℕ
+  pub from_block : ℕ
+  pub from_link : ℕ
+
+unfoldable pub origins_of : ℕ → List ℕ → List Origin
+origins_of zero t = []
+origins_of (suc n) t =
+    record { off = get_or t 0 0; first_link = get_or t 6 0; link_count = get_or t 7 0; from_block = get_or t 12 0; from_link = get_or t 13 0 }
+    ∷ origins_of n (drop block_row_words t)
+
+-- as they stand in the tables of an accepted call
+unfoldable pub origins_in : Exit → Counts → List Origin
+origins_in e c = origins_of c.blocks e.blocks
+
+abbrev pub origin_at : List Origin → ℕ → Origin
+origin_at os i = get_or os i (record { off = 0; first_link = 0; link_count = 0; from_block = 0; from_link = 0 })
+
+-- row i was listed by following a link of row j: the link at its position among those that row j shows leads to it; ts are the targets of
+-- the link table
+pub record Led (os : List Origin) (ts : List ℕ) (i j : ℕ) : Type 0 where
+  pub block : (origin_at os j).off ≡ (origin_at os i).from_block
+  pub shown : (origin_at os i).from_link < (origin_at os j).link_count
+  pub target : get_or ts ((origin_at os j).first_link + (origin_at os i).from_link) 0 ≡ (origin_at os i).off
+
+-- k steps back from row i, each to a listed block that led there, stands the header
+abbrev pub Back : List Origin → List ℕ → ℕ → ℕ → Type 0
+Back os ts zero i = (origin_at os i).off ≡ header_at
+Back os ts (suc k) i = (j : ℕ) × (j < length os) × Led os ts i j × Back os ts k j
+
+-- Document 02, order 3: the ID and the header were listed by no link; from every row but the ID, fewer steps than there are rows lead
+-- back to the header.
+pub record Followed (os : List Origin) (ts : List ℕ) : Type 0 where
+  pub none : (i : ℕ) → i < length os → ((origin_at os i).off ≡ 0) ⊎ ((origin_at os i).off ≡ header_at) → ((origin_at os i).from_block ≡ 0) × ((origin_at os i).from_link ≡ 0)
+  pub back : (i : ℕ) → i < length os → ((origin_at os i).off ≡ 0 → ⊥) → (k : ℕ) × (k < length os) × Back os ts k i
+
 -- document 01's gap: not empty, cut at each listed offset inside it, and no shorter: it ends at a listed offset or at the file's end
 pub record Gap (len : ℕ) (offs : List ℕ) (g : Range) : Type 0 where
   pub some : g.0 < g.1
@@ -65,12 +106,29 @@ pub record Gap (len : ℕ) (offs : List ℕ) (g : Range) : Type 0 where
   pub ends : (g.1 ≡ len) ⊎ (elem g.1 offs ≡ true)
 
 -- The tables of an accepted call: listed offsets strictly ascend; each byte lies in exactly one gap if no extent holds it, else in
--- none; each gap is one as document 01 has it; the gaps' sizes add up to the number of bytes that no extent holds.
+-- none; each gap is one as document 01 has it; the gaps' sizes add up to the number of bytes that no extent holds; the links that were
+-- followed lead back to the header.
 pub record Tables (r : List ℕ) (e : Exit) (c : Counts) : Type 0 where
   pub ascend : (i j : ℕ) → i < j → j < c.blocks → (get_or (extents_in e c) i (0, 0)).0 < (get_or (extents_in e c) j (0, 0)).0
   pub partition : (i : ℕ) → i < length r → count i (gaps_in e c) ≡ bit (not (inside i (extents_in e c)))
   pub gap : (i : ℕ) → i < c.gaps → Gap (length r) (offsets (extents_in e c)) (get_or (gaps_in e c) i (0, 0))
   pub add_up : sizes (gaps_in e c) ≡ tally (λ i. bit (not (inside i (extents_in e c)))) (length r)
+  pub followed : Followed (origins_in e c) (targets_in e c)
+
+-- a path p to the block at a, with the rows os: it starts at the header and ends at a, each next word is a row's offset, and the row names
+-- the word before it; it has no more words than there are rows
+pub record Leads (os : List Origin) (p : List ℕ) (a : ℕ) : Type 0 where
+  pub some : 0 < length p
+  pub most : length p ≤ length os
+  pub first : get_or p 0 0 ≡ header_at
+  pub last : get_or p (length p - 1) 0 ≡ a
+  pub step : (k : ℕ) → k + 1 < length p → (i : ℕ) × (i < length os) × ((origin_at os i).off ≡ get_or p (k + 1) 0) × ((origin_at os i).from_block ≡ get_or p k 0)
+
+-- The output of an accepted path to the block at a: it leads from the header to a row with that offset; none for the ID and where no row
+-- has it.
+pub record Pathed (a : ℕ) (e : Exit) (c : Counts) : Type 0 where
+  pub listed : (i : ℕ) → i < c.blocks → (origin_at (origins_in e c) i).off ≡ a → (a ≡ 0 → ⊥) → Leads (origins_in e c) (take c.bytes e.out) a
+  pub unlisted : (a ≡ 0) ⊎ ((i : ℕ) → i < c.blocks → (origin_at (origins_in e c) i).off ≡ a → ⊥) → c.bytes ≡ 0
 
 -- ranges that hold bytes, in order, with at least one byte between any two, the first not below lo
 abbrev pub Apart : ℕ → List Range → Type 0

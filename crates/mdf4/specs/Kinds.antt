@@ -44,7 +44,7 @@ abbrev kind : ℕ → String → Bool → ℕ → (List ℕ → ℕ) → (List �
 kind n m t len need size targets names =
     record { number = n; mark = mark_of m; tested = t; min_len = len; need = need; size = size; targets = targets; names = map ascii names }
 
--- number, mark, tested, min-len, need, size, targets, names
+-- number, mark, tested, min_len, need, size, targets, names
 unfoldable pub shape : Kind → Shape
 shape ID = kind 1 "##ID" false 64 (λ h. 64) (λ o. 64) (λ o. []) []
 shape HD = kind 2 "##HD" true 104 (λ h. 104) (λ o. 104) (λ o. words o 24 6)

@@ -11,6 +11,7 @@ pub mod Blank
 pub mod Describe
 pub mod Listing
 pub mod Tree
+pub mod Paths
 pub mod Answers
 pub mod Demand3
 pub mod Blanked

@@ -49,8 +49,8 @@ kept_ranges r s = concat_map (link_extent r) s.links
 unfoldable pub spared_ranges : List ℕ → State → List Range
 spared_ranges r s = read_ranges r s ++ kept_ranges r s
 
--- Document 01's list of read bytes per block, as it stands there, over the recording itself. `read-len` is that list
--- (proofs/Fields.antt, `read-len-is`).
+-- Document 01's list of read bytes per block, as it stands there, over the recording itself. `read_len` is that list
+-- (proofs/Fields.antt, `read_len_is`).
 unfoldable pub listed_len : List ℕ → Kind → ℕ → ℕ
 listed_len r ID a = 64
 listed_len r HD a = 104

@@ -3,7 +3,7 @@
 use Rattle.std.specs.Prelude.{Bool, true, false, cond, ◌||◌, List, [], ◌∷◌, ◌++◌, map, ℕ, zero, suc, ◌+◌, ◌^◌, leb, ltb, eqb, length, get_or, drop}
 use Rattle.mdf4.specs.Bytes.{bytes, num, bit}
 use Rattle.mdf4.specs.Act.{refusal, Out, ok, and_then, check, Kind, ID, HD, DG, CG, CN, SI, TX, MD, DT, SD, DL, UT, UD}
-use Rattle.mdf4.specs.Act.{Row, Link, State, Limits, Act, choose, pure, stop, raise, ◌>>=◌, ◌>>◌, sized, once, seen, chain, each}
+use Rattle.mdf4.specs.Act.{Row, Link, State, Limits, Act, choose, pure, stop, raise, ◌>>=◌, ◌>>◌, sized, once, seen, chain, by_link, each_link}
 use Rattle.mdf4.specs.Version.{version}
 use Rattle.mdf4.specs.Kinds.{shape, mark_of, is, read_block, mark_in, RecordLayout, no_records, cg_records, records_in, make_link, null, leads_to, name_ok}
 
@@ -23,7 +23,7 @@ targets_ok (t ∷ ts) = and_then (check (ltb (t + 4) (2 ^ 64)) (refusal 7 t t 4)
 unfoldable pub index_of : Kind → State → ℕ
 index_of k s = cond (is k DG) s.dg_counter (cond (is k CG) s.cg_counter (cond (is k CN) s.cn_counter 0))
 
--- the row of a block, of its own bytes o and its links; h is the record layout handed down
+-- the row of a block, of its own bytes o and its links, reached by the link that is being followed; h is the record layout handed down
 unfoldable pub row_of : Kind → ℕ → RecordLayout → State → List ℕ → List Link → Row
 row_of k a h s o ls = record {
   off = a;
@@ -37,6 +37,8 @@ row_of k a h s o ls = record {
   record_size = (records_in k h o).record_size;
   invalidation_bytes = (records_in k h o).invalidation_bytes;
   record_id_len = (records_in k h o).record_id_len;
+  from_block = s.from_block;
+  from_link = s.from_link;
 }
 
 unfoldable pub push : Kind → Row → List Link → State → State
@@ -47,6 +49,8 @@ push k w ls s = record {
   dg_counter = s.dg_counter + bit (is k DG);
   cg_counter = s.cg_counter + bit (is k CG);
   cn_counter = s.cn_counter + bit (is k CN);
+  from_block = s.from_block;
+  from_link = s.from_link;
   lent = s.lent;
 }
 
@@ -80,6 +84,13 @@ link_of b n = get_or b.1 n null
 unfoldable pub addr : Block → ℕ → ℕ
 addr b n = (link_of b n).target
 
+-- the step f follows the n-th link of the block b at the offset a: it is given the address, or the link itself
+abbrev pub follow : {A : Type 0} → ℕ → Block → ℕ → (ℕ → Act A) → Act A
+follow a b n f = by_link a n (f (addr b n))
+
+abbrev pub follow_link : {A : Type 0} → ℕ → Block → ℕ → (Link → Act A) → Act A
+follow_link a b n f = by_link a n (f (link_of b n))
+
 -- texts: the kind is told by the mark
 unfoldable pub text_kind : List ℕ → Kind
 text_kind h = cond (eqb (num h 0 4) (shape TX).mark) TX (cond (eqb (num h 0 4) (shape MD).mark) MD UT)
@@ -95,7 +106,7 @@ walk_text_like a = choose (eqb a 0) (pure tt) (once UT a tt (sized λ n.
 -- name, path and comment
 unfoldable pub walk_source : ℕ → Act (Unit {0})
 walk_source a = choose (eqb a 0) (pure tt) (once SI a tt (enter SI a (no_records 0) >>= λ b.
-    walk_text_like (addr b 0) >> walk_text_like (addr b 1) >> walk_text_like (addr b 2)))
+    follow a b 0 walk_text_like >> follow a b 1 walk_text_like >> follow a b 2 walk_text_like))
 
 -- a conversion is not walked: refusal 9 where it was not visited; cn is the channel's offset
 unfoldable pub walk_conversion : ℕ → ℕ → Act (Unit {0})
@@ -123,7 +134,7 @@ walk_data_block h l =
 
 -- the data links first, then next; `region` walks one of them
 unfoldable pub walk_data_list : (Link → Act (Unit {0})) → ℕ → Act (Unit {0})
-walk_data_list region a = once DL a tt (enter DL a (no_records 0) >>= λ b. each region (drop 1 b.1) >> region (link_of b 0))
+walk_data_list region a = once DL a tt (enter DL a (no_records 0) >>= λ b. each_link a 1 region (drop 1 b.1) >> follow_link a b 0 region)
 
 -- how many lists may be entered and not left
 abbrev pub max_lists : ℕ
@@ -141,9 +152,9 @@ walk_data_region (suc depth) h l = choose (leads_to (shape DL).mark l) (walk_dat
 -- name, source, conversion, unit, comment; a channel of type 1 (variable length signal data) has data of its own
 unfoldable pub walk_channel : ℕ → Unit {0} → Act (ℕ × Unit {0})
 walk_channel a u = once CN a (0, tt) (enter CN a (no_records 0) >>= λ b.
-    walk_text_like (addr b 2) >> walk_source (addr b 3) >> walk_conversion a (addr b 4) >> walk_text_like (addr b 6) >> walk_text_like (addr b 7)
-    >> choose (eqb (num b.0 88 1) 1) (walk_data_region max_lists (no_records 0) (link_of b 5)) (pure tt)
-    >> pure (addr b 0, tt))
+    follow a b 2 walk_text_like >> follow a b 3 walk_source >> walk_conversion a (addr b 4) >> follow a b 6 walk_text_like >> follow a b 7 walk_text_like
+    >> by_link a 5 (choose (eqb (num b.0 88 1) 1) (walk_data_region max_lists (no_records 0) (link_of b 5)) (pure tt))
+    >> follow a b 0 (λ next. pure (next, tt)))
 
 -- a data group hands down its first channel group's record layout: whether a group came before, and what is handed down
 abbrev pub Handed : Type 0
@@ -155,27 +166,34 @@ hand_down h got = (true, cond got.0 got.1 h)
 -- acquisition name, source, comment, channels; `fuel` bounds the steps of a chain
 unfoldable pub walk_channel_group : ℕ → ℕ → ℕ → Handed → Act (ℕ × Handed)
 walk_channel_group fuel id_len a got = once CG a (0, hand_down (no_records id_len) got) (enter CG a (no_records id_len) >>= λ b.
-    walk_text_like (addr b 2) >> walk_source (addr b 3) >> walk_text_like (addr b 5)
-    >> chain fuel walk_channel (addr b 1) tt
-    >> pure (addr b 0, hand_down (cg_records id_len b.0) got))
+    follow a b 2 walk_text_like >> follow a b 3 walk_source >> follow a b 5 walk_text_like
+    >> follow a b 1 (λ first. chain fuel walk_channel first tt)
+    >> follow a b 0 (λ next. pure (next, hand_down (cg_records id_len b.0) got)))
 
 -- comment, channel groups, data
 unfoldable pub walk_data_group : ℕ → ℕ → Unit {0} → Act (ℕ × Unit {0})
 walk_data_group fuel a u = once DG a (0, tt) (enter DG a (no_records 0) >>= λ b.
-    walk_text_like (addr b 3)
-    >> chain fuel (walk_channel_group fuel (num b.0 56 1)) (addr b 1) (false, no_records (num b.0 56 1))
-    >>= λ got. walk_data_region max_lists got.1 (link_of b 2)
-    >> pure (addr b 0, tt))
+    follow a b 3 walk_text_like
+    >> follow a b 1 (λ first. chain fuel (walk_channel_group fuel (num b.0 56 1)) first (false, no_records (num b.0 56 1)))
+    >>= λ got. follow_link a b 2 (walk_data_region max_lists got.1)
+    >> follow a b 0 (λ next. pure (next, tt)))
+
+-- the header stands behind the identification
+abbrev pub header_at : ℕ
+header_at = 64
 
 -- comment, data groups
+unfoldable pub walk_from_header : ℕ → Block → Act (Unit {0})
+walk_from_header fuel b = follow header_at b 5 walk_text_like >> follow header_at b 0 (λ first. chain fuel (walk_data_group fuel) first tt)
+
 unfoldable pub walk_header : ℕ → Act (Unit {0})
-walk_header fuel = once HD 64 tt (enter HD 64 (no_records 0) >>= λ b. walk_text_like (addr b 5) >> chain fuel (walk_data_group fuel) (addr b 0) tt)
+walk_header fuel = once HD header_at tt (enter HD header_at (no_records 0) >>= walk_from_header fuel)
 
 unfoldable pub walk_identification : Act (Unit {0})
 walk_identification = once ID 0 tt (enter ID 0 (no_records 0) >> pure tt)
 
 unfoldable pub start : Limits → State
-start lim = record { visited = []; rows = []; links = []; dg_counter = 0; cg_counter = 0; cn_counter = 0; lent = lim }
+start lim = record { visited = []; rows = []; links = []; dg_counter = 0; cg_counter = 0; cn_counter = 0; from_block = 0; from_link = 0; lent = lim }
 
 -- no chain visits more blocks than the visited table takes, so the bound cuts none short (proofs/Fuel.antt)
 unfoldable pub walk : Act (Unit {0})

@@ -1,5 +1,5 @@
--- The law of `chunks` on a part of a list, one step at a time. A loop over a text takes its steps from `on-look`, `on_step`,
--- `on-char` or `on-junk`, and what they say of the text from the laws below; it opens no definition.
+-- The law of `chunks` on a part of a list, one step at a time. A loop over a text takes its steps from `on_look`, `on_step`,
+-- `on_char` or `on_junk`, and what they say of the text from the laws below; it opens no definition.
 use mathlib.Core.Path.{◌≡◌, refl, ap, sym, ◌∙◌}
 use mathlib.Core.Bool.{Bool, true, false, cond}
 use mathlib.Core.List.{List, [], ◌∷◌, ◌++◌, append_assoc, append-nil, map}

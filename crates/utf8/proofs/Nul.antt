@@ -1,4 +1,4 @@
--- NULs come off before or after decoding, with one result: a NUL byte is always a character by itself (`nuls-first`).
+-- NULs come off before or after decoding, with one result: a NUL byte is always a character by itself (`nuls_first`).
 use mathlib.Core.Path.{◌≡◌, refl, sym, ap, subst, ◌∙◌}
 use mathlib.Core.Bool.{Bool, true, false, cond}
 use mathlib.Core.List.{List, [], ◌∷◌, ◌++◌, append-nil}
