@@ -1,11 +1,11 @@
 -- The line below a block of each kind, of its fields as the code has them.
-use Rattle.std.proofs.Common.{◌≡◌, refl, sym, ap, ◌∙◌, ℕ, zero, suc, ◌+◌, ◌-◌, ◌/◌, ◌%◌, ◌<◌, ◌⊎◌, true, false, ltb, List, [], ◌∷◌, ◌++◌, arith}
+use Rattle.std.proofs.Common.{◌≡◌, ap, ℕ, ◌⊎◌, ltb, List, [], ◌∷◌, arith}
 use Rattle.fmt.specs.Text.{ascii}
 use Rattle.fmt.specs.Format.{format}
-use Rattle.mdf4.specs.Bytes.{bytes, num}
+use Rattle.mdf4.specs.Bytes.{num}
 use Rattle.mdf4.specs.Act.{ID, HD, CG, CN, DT, DL}
 use Rattle.blocks.specs.declared.kind.Kind.TheVariants as kind
-use Rattle.mdf4.specs.Describe.{extra_line, extra_of, indented, records, payload, trailing_bytes}
+use Rattle.mdf4.specs.Describe.{extra_line, extra_of, indented, records}
 use Rattle.tables.specs.declared.BlockInfo.{BlockInfo}
 use Rattle.tables.specs.Rows.{row_of}
 use Rattle.blocks.specs.declared.header_block.HeaderBlock.{HeaderBlock}

@@ -1,5 +1,5 @@
 -- The name that a link leads to, as it is shown.
-use Rattle.std.proofs.Common.{◌≡◌, refl, sym, ℕ, ◌<◌, ◌^◌, List, [], length, Option, Some, None, Result, Ok, Err}
+use Rattle.std.proofs.Common.{◌≡◌, ℕ, ◌<◌, ◌^◌, List, length, Option, Some, None, Result, Ok, Err}
 use Rattle.std.specs.Borrow.{Bor}
 use Rattle.utf8.specs.Utf8.{lossy}
 use Rattle.mdf4.specs.Kinds.{make_link}

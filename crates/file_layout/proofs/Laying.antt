@@ -2,7 +2,7 @@
 use Rattle.std.specs.Prelude as std
 use Rattle.std.specs.Result.{IsErrAnd}
 use mathlib.Core.Path.{◌≡◌, refl, sym, ap, ◌∙◌}
-use mathlib.Core.List.{List, [], ◌∷◌, ◌++◌, map}
+use mathlib.Core.List.{List, [], ◌++◌, map}
 use Prim.Native.Nat.{ℕ, ◌-◌, ◌*◌, ◌/◌, ◌≤◌, ◌<◌}
 use native.Mathlib.Omega.{arith}
 use lib.ListN.{length, take, drop, replicate, length-append, length-replicate}
@@ -54,12 +54,20 @@ zeros_long n e = ap length e ∙ length-replicate {A = ℕ} n 0
 
 -- the counts of a walk that starts, as `Walk::default` ensures them
 abbrev IsNone : Walk → Type 0
-IsNone k = (k.visited ≡ 0) × ((k.blocks ≡ 0) × ((k.links ≡ 0) × ((k.dg ≡ 0) × ((k.cg ≡ 0) × (k.cn ≡ 0)))))
+IsNone k = (k.visited ≡ 0) × ((k.blocks ≡ 0) × ((k.links ≡ 0) × ((k.dg ≡ 0) × ((k.cg ≡ 0) × ((k.cn ≡ 0) × ((k.from_block ≡ 0) × (k.from_link ≡ 0)))))))
 
 none_is : (k : Walk) → IsNone k → k ≡ none
 none_is k d =
-    let e : ◌≡◌ {A = Walk} (record { visited = k.visited; blocks = k.blocks; links = k.links; dg = k.dg; cg = k.cg; cn = k.cn }) none =
-    rw (d.0, d.1.0, d.1.1.0, d.1.1.1.0, d.1.1.1.1.0, d.1.1.1.1.1) in
+    let e : ◌≡◌ {A = Walk} (record {
+      visited = k.visited;
+      blocks = k.blocks;
+      links = k.links;
+      dg = k.dg;
+      cg = k.cg;
+      cn = k.cn;
+      from_block = k.from_block;
+      from_link = k.from_link;
+    }) none = rw (d.0, d.1.0, d.1.1.0, d.1.1.1.0, d.1.1.1.1.0, d.1.1.1.1.1.0, d.1.1.1.1.1.1.0, d.1.1.1.1.1.1.1) in
     e
 
 -- zeroed tables hold the state in which the walk starts

@@ -21,9 +21,10 @@ pub row_word : (k i j : ℕ) (t : List ℕ) → j < k → get_or (take k (drop (
 row_word k i j t h = get_or-take k (drop (i * k) t) j 0 h ∙ get_or-drop (i * k) t j 0
 
 -- the row that has the words w
-pub row_read : (w : List ℕ) (k : code.Kind) {a e s m x f n z v d : ℕ}
+pub row_read : (w : List ℕ) (k : code.Kind) {a e s m x f n z v d p q : ℕ}
     → a ≡ get_or w 0 0 → e ≡ get_or w 1 0 → s ≡ get_or w 2 0 → m ≡ get_or w 3 0 → kind_named k ≡ kind_of (get_or w 4 0) → x ≡ get_or w 5 0
     → f ≡ get_or w 6 0 → n ≡ get_or w 7 0 → z ≡ get_or w 8 0 → v ≡ get_or w 9 0 → d ≡ get_or w 10 0
+    → p ≡ get_or w 12 0 → q ≡ get_or w 13 0
     → row_of (record {
       offset = a;
       end_offset = e;
@@ -36,9 +37,11 @@ pub row_read : (w : List ℕ) (k : code.Kind) {a e s m x f n z v d : ℕ}
       record_size = z;
       invalidation_bytes = v;
       record_id_len = d;
+      from_block = p;
+      from_link = q;
     }) ≡ row_of_words w
 unfolding row_of row_of_words
-row_read w k e0 e1 e2 e3 e4 e5 e6 e7 e8 e9 e10 = rw (e0, e1, e2, e3, e4, e5, e6, e7, e8, e9, e10)
+row_read w k e0 e1 e2 e3 e4 e5 e6 e7 e8 e9 e10 e12 e13 = rw (e0, e1, e2, e3, e4, e5, e6, e7, e8, e9, e10, e12, e13)
 
 pub link_is : (l : List ℕ) (i : ℕ) → link_at i l ≡ record { target = get_or l (i * pair_words) 0; found = get_or l (i * pair_words + 1) 0 }
 unfolding link_at link_of_words

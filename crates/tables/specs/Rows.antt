@@ -23,9 +23,11 @@ row_of_words t = record {
   record_size = get_or t 8 0;
   invalidation_bytes = get_or t 9 0;
   record_id_len = get_or t 10 0;
+  from_block = get_or t 12 0;
+  from_link = get_or t 13 0;
 }
 
--- a row of the block table as the code has it, and the words that it is stored as: the last one is the tree mark
+-- a row of the block table as the code has it, and the words that it is stored as: the twelfth is the tree mark
 unfoldable pub row_of : BlockInfo → Row
 row_of b = record {
   off = b.offset;
@@ -39,11 +41,14 @@ row_of b = record {
   record_size = b.record_size;
   invalidation_bytes = b.invalidation_bytes;
   record_id_len = b.record_id_len;
+  from_block = b.from_block;
+  from_link = b.from_link;
 }
 
 abbrev pub info_words : BlockInfo → List ℕ
 info_words b =
-    b.offset ∷ b.end_offset ∷ b.size ∷ b.mark ∷ number_of b.kind ∷ b.index ∷ b.first_link ∷ b.link_count ∷ b.record_size ∷ b.invalidation_bytes ∷ b.record_id_len ∷ 0 ∷ []
+    b.offset ∷ b.end_offset ∷ b.size ∷ b.mark ∷ number_of b.kind ∷ b.index ∷ b.first_link ∷ b.link_count ∷ b.record_size ∷ b.invalidation_bytes
+    ∷ b.record_id_len ∷ 0 ∷ b.from_block ∷ b.from_link ∷ []
 
 unfoldable pub link_of_words : List ℕ → Link
 link_of_words t = record { target = get_or t 0 0; found = get_or t 1 0 }

@@ -25,29 +25,31 @@ abbrev pub mark_at : ℕ → ℕ
 mark_at i = i * block_row_words + 11
 
 -- rows do not show their marks
-row_kept : (b b' : List ℕ) (j : ℕ) → ((k : ℕ) → k < 11 → get_or b' (j * block_row_words + k) 0 ≡ get_or b (j * block_row_words + k) 0)
+row_kept : (b b' : List ℕ) (j : ℕ) → ((k : ℕ) → k < block_row_words → (k ≡ 11 → ⊥) → get_or b' (j * block_row_words + k) 0 ≡ get_or b (j * block_row_words + k) 0)
     → row_at j b' ≡ row_at j b
 unfolding row_at row_of_words
 row_kept b b' j h =
     let word : List ℕ → ℕ → ℕ = λ t k. get_or (take block_row_words (drop (j * block_row_words) t)) k 0 in
-    let at : (k : ℕ) → k < 11 → word b' k ≡ word b k =
-    λ k l. row_word block_row_words j k b' (omega arith) ∙ h k l ∙ sym (row_word block_row_words j k b (omega arith)) in
+    let at : (k : ℕ) → k < block_row_words → (k ≡ 11 → ⊥) → word b' k ≡ word b k =
+    λ k l q. row_word block_row_words j k b' (omega arith) ∙ h k l q ∙ sym (row_word block_row_words j k b (omega arith)) in
     rw (
-      at 0 (omega arith),
-      at 1 (omega arith),
-      at 2 (omega arith),
-      at 3 (omega arith),
-      at 4 (omega arith),
-      at 5 (omega arith),
-      at 6 (omega arith),
-      at 7 (omega arith),
-      at 8 (omega arith),
-      at 9 (omega arith),
-      at 10 (omega arith),
+      at 0 (omega arith) (λ e. omega arith),
+      at 1 (omega arith) (λ e. omega arith),
+      at 2 (omega arith) (λ e. omega arith),
+      at 3 (omega arith) (λ e. omega arith),
+      at 4 (omega arith) (λ e. omega arith),
+      at 5 (omega arith) (λ e. omega arith),
+      at 6 (omega arith) (λ e. omega arith),
+      at 7 (omega arith) (λ e. omega arith),
+      at 8 (omega arith) (λ e. omega arith),
+      at 9 (omega arith) (λ e. omega arith),
+      at 10 (omega arith) (λ e. omega arith),
+      at 12 (omega arith) (λ e. omega arith),
+      at 13 (omega arith) (λ e. omega arith),
     )
 
 pub mark_kept : (b : List ℕ) (i j : ℕ) → row_at j (set b (mark_at i) 1) ≡ row_at j b
-mark_kept b i j = row_kept b (set b (mark_at i) 1) j (λ k h. get_or-set_other b (mark_at i) (j * block_row_words + k) 1 0 (λ e. omega arith))
+mark_kept b i j = row_kept b (set b (mark_at i) 1) j (λ k h q. get_or-set_other b (mark_at i) (j * block_row_words + k) 1 0 (λ e. omega arith))
 
 pub bit_true : (x : Bool) → (bit x ≡ 0 → ⊥) → x ≡ true
 unfolding bit
@@ -66,7 +68,7 @@ unfolding concat_map row_words
 marked v [] z i d h = absurd (omega arith)
 marked v (w ∷ ws) z zero d h = refl
 marked v (w ∷ ws) z (suc i) d h =
-    let e : mark_at (suc i) ≡ suc (suc (suc (suc (suc (suc (suc (suc (suc (suc (suc (suc (mark_at i)))))))))))) = omega arith in
+    let e : mark_at (suc i) ≡ suc (suc (suc (suc (suc (suc (suc (suc (suc (suc (suc (suc (suc (suc (mark_at i)))))))))))))) = omega arith in
     rw e (marked v ws z i d (omega arith))
 
 -- marking a row of rising offsets
@@ -86,7 +88,7 @@ row_marked v w t = rw (eq-eqb w.off w.off refl)
 row_passed : (v : List ℕ) (w : Row) (t : List ℕ) (i : ℕ) → set (row_words v w ++ t) (mark_at (suc i)) 1 ≡ row_words v w ++ set t (mark_at i) 1
 unfolding row_words
 row_passed v w t i =
-    let e : mark_at (suc i) ≡ suc (suc (suc (suc (suc (suc (suc (suc (suc (suc (suc (suc (mark_at i)))))))))))) = omega arith in
+    let e : mark_at (suc i) ≡ suc (suc (suc (suc (suc (suc (suc (suc (suc (suc (suc (suc (suc (suc (mark_at i)))))))))))))) = omega arith in
     rw e
 
 marked_set : (v : List ℕ) (ws : List Row) (z : List ℕ) (i : ℕ) (d : Row) → Rising ws → i < length ws

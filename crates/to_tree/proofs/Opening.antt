@@ -36,12 +36,12 @@ pub block_is : (n : ℕ) (b : List ℕ) (rows : List (List ℕ)) (i : ℕ) (d : 
 block_is n b rows i d block e h q = q ∙ ap (λ (ws : List (List ℕ)). row_of_words (get_or ws i d)) e ∙ row_shown n b i d h
 
 pub row_inside : (n : ℕ) (b : List ℕ) (rows : List (List ℕ)) (i : ℕ) → rows ≡ rows_of n b → i < n → i < length rows
-row_inside n b rows i e h = rw (e, table_length 12 (λ row. row) n b) h
+row_inside n b rows i e h = rw (e, table_length block_row_words (λ row. row) n b) h
 
 pub ready_of : {r : List ℕ} {l : List (List ℕ)} (n : ℕ) (b : List ℕ) → n * block_row_words ≤ length b → Printable r (rows_of n b) l → Ready r l n b
 ready_of n b h p = record {
   rows_fit = h;
-  row = λ i k. rw (row_shown n b i [] k) at (p.row i (rw (table_length 12 (λ row. row) n b) k));
+  row = λ i k. rw (row_shown n b i [] k) at (p.row i (rw (table_length block_row_words (λ row. row) n b) k));
 }
 
 -- of rows that are ready

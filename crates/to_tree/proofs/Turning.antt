@@ -9,6 +9,7 @@ use Rattle.std.proofs.lemmas.List.{length-map, take-map, drop-map}
 use borrow.Author.Tests.{le-leb, lt-leb, leb-true, leb-false}
 use Rattle.fmt.specs.Text.{Page, emit}
 use Rattle.fmt.specs.declared.Page as lent
+use Rattle.mdf4.specs.Answers.{block_row_words}
 use Rattle.mdf4.specs.Act.{Refusal, Out, ok, err, and_then, Kind, Row, Link, elem}
 use Rattle.mdf4.specs.Kinds.{null}
 use Rattle.mdf4.specs.Layout.{Layout}
@@ -97,7 +98,7 @@ pub record Turning (r : List ℕ) (n : ℕ) (l : List (List ℕ)) (levels : ℕ)
 -- the next child, among the rows of the table b
 module _ (n : ℕ) (b : List ℕ) (ls : List Link) (from : ℕ) (c : declared.Child) (x : Stops (rows_of n b) ls from c) where
   next_in : c.place < length ls → c.row < n
-  next_in h = omega (arith, x.row h, table_length 12 (λ row. row) n b)
+  next_in h = omega (arith, x.row h, table_length block_row_words (λ row. row) n b)
 
   -- of a layout that the tables hold
   module _ {l : List (List ℕ)} {y : Layout} {z v : List ℕ} (h : Holds n b l y z v) where

@@ -4,7 +4,7 @@ use Rattle.std.proofs.Common.{◌≡◌, refl, sym, ap, ◌∙◌, true, false, 
 use native.Mathlib.Nat.{le_of_suc-le-suc, not-suc-le-zero}
 use borrow.Author.Tests.{leb-true}
 use Rattle.mdf4.specs.Bytes.{bytes, num, words}
-use Rattle.mdf4.specs.Act.{Refusal, ok, err, DL, elem, once, choose, pure, reason, visit, ◌>>◌}
+use Rattle.mdf4.specs.Act.{Refusal, ok, err, DL, elem, once, choose, pure, reason, visit, ◌>>=◌, ◌>>◌}
 use Rattle.mdf4.specs.Kinds.{shape, is, links_nr, data_at, header_ok, rest, read_len, read_block, no_records}
 use Rattle.mdf4.proofs.Fields.{num_bytes}
 use Rattle.blocks.specs.declared.data_list_block.DataListBlock.{DataListBlock}
@@ -85,9 +85,9 @@ module _ (a : ℕ) {w : Walker} (h : elem a (holds w).visited ≡ false) where
   enter_deep d e = rw e (unfold enter_list in looked _ _ false h (no _ refl (refused DL a)))
 
   pub enter_new : (d : ℕ) → (d ≡ 0 → ⊥) → {r : std.Result (std.Option ℕ) MdfError} {w1 : Walker}
-      → Does (listed w.file.now a) w r w1 (visit DL a >> open_list a) → Does (listed w.file.now a) w r w1 (enter_list d a)
+      → Does (listed w.file.now a) w r w1 (visit DL a >> (open_list a >>= λ ls. pure (std.Some ls))) → Does (listed w.file.now a) w r w1 (enter_list d a)
   enter_new zero n p = absurd (n refl)
-  enter_new (suc d) n p = alike {m = visit DL a >> open_list a} (unfold enter_list once choose in rw h) p
+  enter_new (suc d) n p = alike {m = visit DL a >> (open_list a >>= λ ls. pure (std.Some ls))} (unfold enter_list once choose in rw h) p
 
 pub enter_seen : (a : ℕ) {w : Walker} → elem a (holds w).visited ≡ true → (d : ℕ) → Does (listed w.file.now a) w (std.Ok std.None) w (enter_list d a)
 enter_seen a h zero = unfold enter_list in looked _ _ true h (yes _ refl (done refl))

@@ -5,9 +5,9 @@ use Rattle.std.proofs.Common.{get_or, take, length-append, arith}
 use lib.Seq.{length-take-le}
 use borrow.Author.Tests.{eqb-true, eq-eqb, ne_eqb, lt-ltb, le-ltb, le-leb, lt-leb}
 use Rattle.mdf4.specs.Bytes.{little, num, bytes, words}
-use Rattle.mdf4.specs.Act.{ok, err, refusal, SI, UT, Act, State, pure, stop, choose, sized, once, ◌>>=◌, ◌>>◌, Kind}
+use Rattle.mdf4.specs.Act.{ok, err, refusal, SI, UT, Act, State, pure, stop, choose, sized, once, by_link, ◌>>=◌, ◌>>◌, Kind}
 use Rattle.mdf4.specs.Kinds.{shape, links_nr, no_records, read_block, read_of, make_link}
-use Rattle.mdf4.specs.Walk.{enter, addr, link_of, text_kind, enter_text, walk_text_like}
+use Rattle.mdf4.specs.Walk.{enter, addr, link_of, follow, text_kind, enter_text, walk_text_like}
 use Rattle.mdf4.proofs.Results.{check_ok}
 use Rattle.blocks.specs.declared.kind.Kind.TheVariants as code
 use Rattle.blocks.specs.declared.source_block.SourceBlock.{SourceBlock}
@@ -122,6 +122,6 @@ source_found r a {b} e z =
 -- behind its row, its three texts are walked
 pub source_then : (a x y z : ℕ) {o : List ℕ} {w w1 w2 : Walker} {r : std.Result (Unit {0}) MdfError}
     → Does (λ (u : Unit {0}). (o, map (make_link w.file.now) (x ∷ y ∷ z ∷ []))) w (std.Ok tt) w1 (enter SI a (no_records 0))
-    → Walks w1 r w2 (walk_text_like x >> walk_text_like y >> walk_text_like z)
-    → Walks w r w2 (enter SI a (no_records 0) >>= λ b. walk_text_like (addr b 0) >> walk_text_like (addr b 1) >> walk_text_like (addr b 2))
+    → Walks w1 r w2 (by_link a 0 (walk_text_like x) >> by_link a 1 (walk_text_like y) >> by_link a 2 (walk_text_like z))
+    → Walks w r w2 (enter SI a (no_records 0) >>= λ b. follow a b 0 walk_text_like >> follow a b 1 walk_text_like >> follow a b 2 walk_text_like)
 source_then a x y z p q = then _ p (unfold addr link_of make_link in q)

@@ -1,5 +1,5 @@
 -- What the functions for data blocks and data lists are told.
-use Rattle.std.specs.Prelude.{◌≡◌, List, [], map, ◌⊎◌, ℕ, zero, suc, ◌+◌, ◌*◌, ◌≤◌, length, Option, Some, None}
+use Rattle.std.specs.Prelude.{◌≡◌, List, map, ◌⊎◌, ℕ, zero, suc, ◌+◌, ◌*◌, ◌≤◌, length, Option, Some, None}
 use Rattle.mdf4.specs.Bytes.{words}
 use Rattle.mdf4.specs.Act.{Kind, DT, SD, DL, UD, Link, refusal, Act, choose, pure, stop, ◌>>=◌, ◌>>◌, once, seen}
 use Rattle.mdf4.specs.Kinds.{RecordLayout, no_records, records_in, make_link}
@@ -22,10 +22,10 @@ list_header k a h = enter k a h >> pure tt
 unfoldable pub open_list : ℕ → Act (List Link)
 open_list a = enter DL a (no_records 0) >>= λ b. pure b.1
 
--- all of a data list but what its links lead to: no links where it was visited; `depth` lists may still be entered
-unfoldable pub enter_list : ℕ → ℕ → Act (List Link)
-enter_list zero a = seen a λ b. choose b (pure []) (stop DL a (refusal 15 a max_lists 0))
-enter_list (suc depth) a = once DL a [] (open_list a)
+-- all of a data list but what its links lead to: its links, none at all where it was visited; `depth` lists may still be entered
+unfoldable pub enter_list : ℕ → ℕ → Act (Option (List Link))
+enter_list zero a = seen a λ b. choose b (pure None) (stop DL a (refusal 15 a max_lists 0))
+enter_list (suc depth) a = once DL a None (open_list a >>= λ ls. pure (Some ls))
 
 -- a data list and what its links lead to
 unfoldable pub data_list : ℕ → RecordLayout → ℕ → Act (Unit {0})
@@ -37,9 +37,9 @@ abbrev pub links_at : List ℕ → ℕ → ℕ → List Link
 links_at r a n = map (make_link r) (words r (a + 24) n)
 
 -- the same where it was entered
-abbrev pub listed : List ℕ → ℕ → Option ℕ → List Link
-listed r a (Some n) = links_at r a n
-listed r a None = []
+abbrev pub listed : List ℕ → ℕ → Option ℕ → Option (List Link)
+listed r a (Some n) = Some (links_at r a n)
+listed r a None = None
 
 -- it has some, and they stand in the recording
 pub record Inside (r : List ℕ) (a n : ℕ) : Type 0 where

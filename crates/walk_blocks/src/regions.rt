@@ -165,8 +165,10 @@ fn walk_data_list(
     let left = depth - 1;
     for i in 1..count {
         let link = walker.make_link(DataListBlock::data_link(walker.file, addr, i as u64));
+        walker.follow(addr, i as u64);
         walk_data_region(walker, link, layout, left)?;
     }
     let next = walker.make_link(DataListBlock::data_link(walker.file, addr, 0));
+    walker.follow(addr, 0);
     walk_data_region(walker, next, layout, left)
 }

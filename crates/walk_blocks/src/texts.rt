@@ -82,8 +82,11 @@ pub fn walk_source(walker: &mut Walker<'_>, addr: u64) -> Result<(), MdfError>
     let block = Block::plain(addr, source.block_len, SourceBlock::ID, Kind::SI);
     let targets = [source.name_addr, source.path_addr, source.comment_addr];
     walker.list_block(block, &targets)?;
+    walker.follow(addr, 0);
     walk_text_like(walker, source.name_addr)?;
+    walker.follow(addr, 1);
     walk_text_like(walker, source.path_addr)?;
+    walker.follow(addr, 2);
     walk_text_like(walker, source.comment_addr)
 }
 

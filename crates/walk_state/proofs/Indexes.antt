@@ -33,5 +33,14 @@ uncounted UD p q r = record { dg = refl; cg = refl; cn = refl }
 
 -- the counts with one row more
 pub listed_is : (k : spec.Kind) (w : Walk) {d c n : ℕ} → d ≡ w.dg + bit (is k spec.DG) → c ≡ w.cg + bit (is k spec.CG) → n ≡ w.cn + bit (is k spec.CN)
-    → record { visited = w.visited; blocks = w.blocks + 1; links = w.links; dg = d; cg = c; cn = n } ≡ one_listed k w
+    → record {
+      visited = w.visited;
+      blocks = w.blocks + 1;
+      links = w.links;
+      dg = d;
+      cg = c;
+      cn = n;
+      from_block = w.from_block;
+      from_link = w.from_link;
+    } ≡ one_listed k w
 listed_is k w p q r = unfold one_listed in rw (p, q, r)

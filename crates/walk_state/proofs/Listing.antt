@@ -38,6 +38,8 @@ pub words_made : (x : declared.Block) (n : ℕ) (w : Walk) (v b l : List ℕ) (i
       record_size = x.layout.record_size;
       invalidation_bytes = x.layout.invalidation_bytes;
       record_id_len = x.layout.record_id_len;
+      from_block = w.from_block;
+      from_link = w.from_link;
     }) ≡ row_words [] (row_made x n (held w v b l))
 unfolding row_words row_made index_of indexed elem bit held held_links
 words_made x n w v b l i f q r = rw (q, r, table_length 2 link_of_words w.links l)

@@ -3,11 +3,11 @@ use Rattle.std.proofs.Common.{◌≡◌, refl, ap, List, [], ℕ, ◌-◌, ◌/�
 use Rattle.std.proofs.lemmas.List.{length-replicate}
 use Rattle.mdf4.specs.Bytes.{concat_map}
 use Rattle.mdf4.specs.Walk.{start}
-use Rattle.mdf4.specs.Answers.{filled}
+use Rattle.mdf4.specs.Answers.{filled, block_row_words}
 use Rattle.tables.specs.Rows.{table, held_rows, held_links, Used}
 use Rattle.walk_state.specs.Within.{held, none, Within}
 
-pub held_none : (v b l : List ℕ) → held none v b l ≡ start (record { visited = length v; blocks = length b / 12; links = length l / 2 })
+pub held_none : (v b l : List ℕ) → held none v b l ≡ start (record { visited = length v; blocks = length b / block_row_words; links = length l / 2 })
 unfolding held held_rows held_links table start
 held_none v b l = refl
 

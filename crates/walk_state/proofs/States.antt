@@ -8,7 +8,7 @@ use Rattle.mdf4.specs.Bytes.{bit}
 use Rattle.mdf4.specs.Act.{Kind, DG, CG, CN, Row, Link, ok, err, refusal, and_then, check, marked, visit, reason}
 use Rattle.mdf4.specs.Kinds.{is}
 use Rattle.mdf4.specs.Walk.{push}
-use Rattle.mdf4.specs.Answers.{row_words, link_words}
+use Rattle.mdf4.specs.Answers.{row_words, link_words, block_row_words}
 use Rattle.walk_state.specs.declared.Walk.{Walk}
 use Rattle.tables.specs.Rows.{Used, row_of_words, link_of_words, held_rows, held_links}
 use Rattle.walk_state.specs.Within.{held, Within, one_listed, with_links}
@@ -21,7 +21,16 @@ links_held w v b l = table_length 2 link_of_words w.links l
 
 -- the counts with one offset more
 abbrev pub one_visited : Walk → Walk
-one_visited w = record { visited = w.visited + 1; blocks = w.blocks; links = w.links; dg = w.dg; cg = w.cg; cn = w.cn }
+one_visited w = record {
+  visited = w.visited + 1;
+  blocks = w.blocks;
+  links = w.links;
+  dg = w.dg;
+  cg = w.cg;
+  cn = w.cn;
+  from_block = w.from_block;
+  from_link = w.from_link;
+}
 
 module _ (w : Walk) (v b l : List ℕ) (h : Within w v b l) (at : ℕ) where
   take_more : w.visited < length v → take (w.visited + 1) (set v w.visited at) ≡ take w.visited v ++ at ∷ []
@@ -47,7 +56,7 @@ module _ (w : Walk) (v b l : List ℕ) (h : Within w v b l) (at : ℕ) where
         let long : length (take w.visited v) ≡ w.visited = length-take-le w.visited v (omega (arith, h.visited.fits)) in
         rw (long, le-ltb w.visited (length v) m)
 
-row_sized : (x : Row) → length (row_words [] x) ≡ 12
+row_sized : (x : Row) → length (row_words [] x) ≡ block_row_words
 unfolding row_words
 row_sized x = refl
 
@@ -61,20 +70,20 @@ bit_one true = omega arith
 bit_one false = omega arith
 
 -- the row x is stored behind those in use
-module _ (w : Walk) (v b l : List ℕ) (room : w.blocks * 12 + 12 ≤ length b) (k : Kind) (x : Row) where
-  pub row_says : held (one_listed k w) v (sets b (w.blocks * 12) (row_words [] x)) l ≡ push k x [] (held w v b l)
+module _ (w : Walk) (v b l : List ℕ) (room : w.blocks * block_row_words + block_row_words ≤ length b) (k : Kind) (x : Row) where
+  pub row_says : held (one_listed k w) v (sets b (w.blocks * block_row_words) (row_words [] x)) l ≡ push k x [] (held w v b l)
   unfolding held held_rows push one_listed
   row_says =
       let n : ℕ = w.blocks in
-      let m : held_rows (n + 1) (sets b (n * 12) (row_words [] x)) ≡ held_rows n b ++ x ∷ [] = row_more 12 row_of_words (row_words []) row_sized
+      let m : held_rows (n + 1) (sets b (n * block_row_words) (row_words [] x)) ≡ held_rows n b ++ x ∷ [] = row_more block_row_words row_of_words (row_words []) row_sized
       (row_again []) n b x room in
-      rw (m, length-sets b (n * 12) (row_words [] x), append-nil)
+      rw (m, length-sets b (n * block_row_words) (row_words [] x), append-nil)
 
-  pub row_within : Within w v b l → Within (one_listed k w) v (sets b (w.blocks * 12) (row_words [] x)) l
+  pub row_within : Within w v b l → Within (one_listed k w) v (sets b (w.blocks * block_row_words) (row_words [] x)) l
   unfolding held_rows one_listed
   row_within h = record {
     visited = h.visited;
-    rows = words_more 12 row_of_words (row_words []) row_sized (row_again []) w.blocks b x room h.rows;
+    rows = words_more block_row_words row_of_words (row_words []) row_sized (row_again []) w.blocks b x room h.rows;
     links = h.links;
     dg = omega (arith, h.dg, bit_one (is k DG));
     cg = omega (arith, h.cg, bit_one (is k CG));
@@ -82,8 +91,8 @@ module _ (w : Walk) (v b l : List ℕ) (room : w.blocks * 12 + 12 ≤ length b) 
   }
 
 -- the same of the words ws that the code stores
-module _ (w w' : Walk) (v b b' l : List ℕ) (room : w.blocks * 12 + 12 ≤ length b) (k : Kind) (x : Row) (ws : List ℕ) (e : w' ≡ one_listed k w)
-    (f : b' ≡ sets b (w.blocks * 12) ws) (g : ws ≡ row_words [] x) where
+module _ (w w' : Walk) (v b b' l : List ℕ) (room : w.blocks * block_row_words + block_row_words ≤ length b) (k : Kind) (x : Row) (ws : List ℕ) (e : w' ≡ one_listed k w)
+    (f : b' ≡ sets b (w.blocks * block_row_words) ws) (g : ws ≡ row_words [] x) where
   pub row_pushed : held w' v b' l ≡ push k x [] (held w v b l)
   row_pushed = rw (e, f, g) (row_says w v b l room k x)
 
@@ -95,11 +104,20 @@ module _ (w w' : Walk) (v b b' l : List ℕ) (room : w.blocks * 12 + 12 ≤ leng
   row_grew = rw e (omega arith)
 
   pub row_long : length b' ≡ length b
-  row_long = ap length f ∙ length-sets b (w.blocks * 12) ws
+  row_long = ap length f ∙ length-sets b (w.blocks * block_row_words) ws
 
 -- the counts with one link more
 abbrev pub one_linked : Walk → Walk
-one_linked w = record { visited = w.visited; blocks = w.blocks; links = w.links + 1; dg = w.dg; cg = w.cg; cn = w.cn }
+one_linked w = record {
+  visited = w.visited;
+  blocks = w.blocks;
+  links = w.links + 1;
+  dg = w.dg;
+  cg = w.cg;
+  cn = w.cn;
+  from_block = w.from_block;
+  from_link = w.from_link;
+}
 
 -- the link x is stored behind those in use
 module _ (w : Walk) (v b l : List ℕ) (room : w.links * 2 + 2 ≤ length l) (x : Link) where

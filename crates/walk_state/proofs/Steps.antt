@@ -3,11 +3,11 @@ use Rattle.std.specs.Prelude as std
 use Rattle.std.specs.Result.{IsErrAnd}
 use Rattle.std.proofs.Common.{◌≡◌, refl, ◌∙◌, Bool, true, false, ℕ, List, length, arith}
 use Rattle.mdf4.specs.Act.{Refusal, Result, Stop, ok, err, and_then, Kind, State, Act, pure, stop, reason, choose, sized, once, seen, visit}
-use Rattle.mdf4.specs.Act.{elem, ◌>>=◌, ◌>>◌}
+use Rattle.mdf4.specs.Act.{elem, ◌>>=◌, ◌>>◌, following, by_link}
 use Rattle.blocks.specs.Errors.{numbers}
 use Rattle.blocks.specs.declared.error.MdfError.{MdfError}
 use Rattle.walk_state.specs.declared.Walker.{Walker}
-use Rattle.walk_state.specs.Held.{holds, Keeps, Does, Walks, mark}
+use Rattle.walk_state.specs.Held.{holds, Keeps, Does, Walks, Stepped, mark}
 
 pub keeps_same : {w : Walker} → Keeps w w
 keeps_same =
@@ -66,6 +66,11 @@ module _ {C D : Type 0} {g : C → D} {w w1 : Walker} where
   pub halt_next : {e : MdfError} {m : Act (Unit {0})} (n : Act D) → Walks w (std.Err e) w1 m → Does g w (std.Err e) w1 (m >> n)
   halt_next {m} n p = record { says = unfold ◌>>◌ in reason_err (m w.file.now (holds w)) _ p.says; keeps = p.keeps }
 
+-- a step by a link that is followed
+pub led : {A B : Type 0} {f : A → B} {w w1 w2 : Walker} {r : std.Result A MdfError} (a n : ℕ) {m : Act B} → Stepped w w1 (following a n (holds w))
+    → Does f w1 r w2 m → Does f w r w2 (by_link a n m)
+led a n s p = record { says = unfold by_link in rw (← s.says, ← s.keeps.file) p.says; keeps = keeps_then s.keeps p.keeps }
+
 module _ {A B : Type 0} {f : A → B} {w w1 : Walker} {r : std.Result A MdfError} where
   -- the definition's tests
   pub yes : {b : Bool} {m : Act B} (n : Act B) → b ≡ true → Does f w r w1 m → Does f w r w1 (choose b m n)
@@ -90,14 +95,6 @@ module _ {A B : Type 0} {f : A → B} {w : Walker} where
 
   pub refused : (k : Kind) (a : ℕ) {e : MdfError} → Does f w (std.Err e) w (stop k a (numbers e))
   refused k a = record { says = unfold stop reason in refl; keeps = keeps_same }
-
--- the same answer, its value read in another way
-module _ {A B C : Type 0} {f : A → B} {g : C → B} {w w1 : Walker} {m : Act B} where
-  pub as_ok : {a : A} {c : C} → f a ≡ g c → Does f w (std.Ok a) w1 m → Does g w (std.Ok c) w1 m
-  as_ok e p = record { says = rw (← e) p.says; keeps = p.keeps }
-
-  pub as_err : {e : MdfError} → Does f w (std.Err e) w1 m → Does g w (std.Err e) w1 m
-  as_err p = record { says = p.says; keeps = p.keeps }
 
 -- a step whose value is dropped
 pub dropped : {A B C : Type 0} {f : A → B} {g : A → C} {w w1 : Walker} {m : Act B} {b : C} (r : std.Result A MdfError) → ((a : A) → g a ≡ b)

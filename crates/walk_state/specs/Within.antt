@@ -20,6 +20,8 @@ held w v b l = record {
   dg_counter = w.dg;
   cg_counter = w.cg;
   cn_counter = w.cn;
+  from_block = w.from_block;
+  from_link = w.from_link;
   lent = record { visited = length v; blocks = length b / block_row_words; links = length l / pair_words };
 }
 
@@ -34,7 +36,7 @@ pub record Within (w : Walk) (v b l : List ℕ) : Type 0 where
 
 -- nothing in use
 abbrev pub none : Walk
-none = record { visited = 0; blocks = 0; links = 0; dg = 0; cg = 0; cn = 0 }
+none = record { visited = 0; blocks = 0; links = 0; dg = 0; cg = 0; cn = 0; from_block = 0; from_link = 0 }
 
 -- the code's link and record layout as the definition's
 abbrev pub link_of : link.Link → Link
@@ -60,6 +62,8 @@ one_listed k w = record {
   dg = w.dg + bit (is k DG);
   cg = w.cg + bit (is k CG);
   cn = w.cn + bit (is k CN);
+  from_block = w.from_block;
+  from_link = w.from_link;
 }
 
 -- more links
@@ -71,6 +75,8 @@ with_links ls s = record {
   dg_counter = s.dg_counter;
   cg_counter = s.cg_counter;
   cn_counter = s.cn_counter;
+  from_block = s.from_block;
+  from_link = s.from_link;
   lent = s.lent;
 }
 
@@ -95,6 +101,8 @@ row_made x n s = record {
   record_size = x.layout.record_size;
   invalidation_bytes = x.layout.invalidation_bytes;
   record_id_len = x.layout.record_id_len;
+  from_block = s.from_block;
+  from_link = s.from_link;
 }
 
 -- x and the link targets ts are what the own bytes o of a block tell, with the record layout h handed down; and its content is

@@ -18,7 +18,8 @@ use blocks::kind::Kind;
 use little_endian::read_u32;
 use tables::{BLOCK_ROW_WORDS, BlockInfo, PAIR_WORDS};
 
-// The rows in use of each table, and the next index of each kind that counts.
+// The rows in use of each table, the next index of each kind that counts, and the link that is being followed (document 02, order 3):
+// the offset of the block that has it, and its position among those shown.
 #[derive(Clone, Copy, Debug, Default, PartialEq, Eq)]
 pub struct Walk {
     pub visited: usize,
@@ -27,6 +28,8 @@ pub struct Walk {
     pub dg: u64,
     pub cg: u64,
     pub cn: u64,
+    pub from_block: u64,
+    pub from_link: u64,
 }
 
 // What a channel group says of its records, as it is handed down to its data blocks.
@@ -180,6 +183,15 @@ impl<'a> Walker<'a> {
         Ok(true)
     }
 
+    // The walk goes on by this link of a block: what is listed until the next call is reached by it. It is no parameter of every walk,
+    // since it is known where a link is followed and stored with a row, several calls below.
+    pub fn follow(&mut self, block: u64, position: u64)
+        ensures { Stepped self.old self.new (spec.following block position (holds self.old)) }
+    {
+        self.walk.from_block = block;
+        self.walk.from_link = position;
+    }
+
     // A link to a target, with the mark that stands there.
     pub fn make_link(&self, target: u64) -> Link
         ensures { link_of result ≡ kinds.make_link self.now.file.now target }
@@ -220,6 +232,11 @@ impl<'a> Walker<'a> {
         requires { block.offset + block.size < 2 ^ 64 }
         ensures { info_words result ≡ row_words [] (row_made block count (holds self.now)) }
     {
+        let Walk {
+            from_block,
+            from_link,
+            ..
+        } = self.walk;
         BlockInfo {
             offset: block.offset,
             end_offset: block.offset + block.size,
@@ -236,6 +253,8 @@ impl<'a> Walker<'a> {
             record_size: block.layout.record_size,
             invalidation_bytes: block.layout.invalidation_bytes,
             record_id_len: block.layout.record_id_len,
+            from_block,
+            from_link,
         }
     }
 

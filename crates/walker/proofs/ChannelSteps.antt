@@ -4,7 +4,7 @@ use Rattle.std.specs.Prelude.{Option}
 use Rattle.std.specs.Borrow.{Bor}
 use Rattle.std.proofs.Common.{◌≡◌, refl, sym, ◌∙◌, ℕ, List, [], ◌∷◌, map, length, eqb}
 use Rattle.mdf4.specs.Bytes.{little, num, words}
-use Rattle.mdf4.specs.Act.{ok, err, CN, choose, pure, ◌>>=◌, ◌>>◌}
+use Rattle.mdf4.specs.Act.{ok, err, CN, choose, pure, ◌>>=◌, ◌>>◌, by_link}
 use Rattle.mdf4.specs.Kinds.{shape, is, no_records, mark_in, records_in, read_block, make_link, name_link, name_head, name_check, name_ok}
 use Rattle.mdf4.specs.Walk.{content_ok, addr, link_of, max_lists, walk_data_region}
 use Rattle.mdf4.proofs.Results.{and_then_ok}
@@ -91,5 +91,5 @@ module _ {w w1 : Walker} {r : std.Result (Unit {0}) MdfError} (x : ChannelBlock)
 -- the walk behind it
 module _ {C : Type 0} {g : C → ℕ × Unit {0}} {w w1 : Walker} {r : std.Result C MdfError} where
   pub channel_entered : (a : ℕ) → Does g w r w1 (entered CN a (no_records 0) channel_block_of >>= channel_links a) → Does g w r w1 (enter_channel a)
-  unfolding enter_channel channel_data ◌>>=◌ ◌>>◌ choose addr link_of make_link shape words channel_block_of
+  unfolding enter_channel channel_data ◌>>=◌ ◌>>◌ by_link choose addr link_of make_link shape words channel_block_of
   channel_entered a p = behind channel_block_of CN a (no_records 0) _ (channel_links a) (λ r o s. refl) p

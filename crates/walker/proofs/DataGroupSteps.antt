@@ -2,7 +2,7 @@
 use Rattle.std.specs.Prelude as std
 use Rattle.std.proofs.Common.{◌≡◌, refl, sym, ap, ◌∙◌, false, ℕ, List, [], ◌∷◌}
 use Rattle.mdf4.specs.Bytes.{little, num, words}
-use Rattle.mdf4.specs.Act.{ok, DG, Link, pure, ◌>>=◌, ◌>>◌, chain}
+use Rattle.mdf4.specs.Act.{ok, DG, Link, pure, ◌>>=◌, ◌>>◌, chain, by_link}
 use Rattle.mdf4.specs.Kinds.{shape, is, no_records, mark_in, records_in, read_block, make_link, name_ok}
 use Rattle.mdf4.specs.Walk.{content_ok, addr, link_of, walk_text_like, walk_channel_group, walk_data_region, max_lists}
 use Rattle.blocks.specs.DataGroupBlock.{data_group_block_of}
@@ -18,6 +18,7 @@ use Rattle.walk_state.specs.declared.Walker.{Walker}
 use Rattle.walk_state.proofs.Steps.{keeps_then, alike}
 use Rattle.walker.specs.Chains.{entered}
 use Rattle.walker.specs.DataGroups.{data_group_links, enter_data_group}
+use Rattle.walker.specs.Groups.{handed}
 use Rattle.walker.proofs.Chaining.{same_file}
 use Rattle.walker.proofs.GroupSteps.{layout_alone}
 use Rattle.walker.proofs.Entering.{own_mark, Opened, behind}
@@ -57,10 +58,11 @@ link_kept t p q e = e ∙ ap (λ (x : List ℕ). make_link x t) (same_file (keep
 
 -- the walk behind it, with the link to its data that the walker makes
 module _ {C : Type 0} (fuel a : ℕ) {f : C → ℕ × Unit {0}} {w w1 : Walker} {r : std.Result C MdfError} where
-  pub data_group_entered : Does f w r w1 (entered DG a (no_records 0) data_group_block_of >>= λ x. data_group_links fuel x (make_link w.file.now x.data_block_addr))
+  pub data_group_entered : Does f w r w1 (entered DG a (no_records 0) data_group_block_of >>= λ x. data_group_links fuel a x (make_link w.file.now x.data_block_addr))
       → Does f w r w1 (enter_data_group fuel a)
-  unfolding enter_data_group ◌>>=◌ ◌>>◌ addr link_of make_link shape words data_group_block_of
+  unfolding enter_data_group handed ◌>>=◌ ◌>>◌ by_link addr link_of make_link shape words data_group_block_of
   data_group_entered p =
-      behind data_group_block_of DG a (no_records 0) _ (λ x r. data_group_links fuel x (make_link r x.data_block_addr) r)
-      (λ r o s. sym (layout_alone (walk_text_like (num o 48 8)) (chain fuel (walk_channel_group fuel (num o 56 1)) (num o 32 8) (false, no_records (num o 56 1)))
-      (λ h. walk_data_region max_lists h (make_link r (num o 40 8)) >> pure (num o 24 8, tt)) r s)) (alike refl p)
+      behind data_group_block_of DG a (no_records 0) _ (λ x r. data_group_links fuel a x (make_link r x.data_block_addr) r)
+      (λ r o s. sym (layout_alone (by_link a 3 (walk_text_like (num o 48 8)))
+      (by_link a 1 (chain fuel (walk_channel_group fuel (num o 56 1)) (num o 32 8) (false, no_records (num o 56 1))))
+      (λ h. by_link a 2 (walk_data_region max_lists h (make_link r (num o 40 8))) >> by_link a 0 (pure (num o 24 8, tt))) r s)) (alike refl p)

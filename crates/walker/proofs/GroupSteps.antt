@@ -67,10 +67,10 @@ group_found r a {g} e n z d ts t =
 
 -- the walk behind it
 module _ {C : Type 0} (fuel n : ℕ) (got : Handed) {f : C → ℕ × Handed} {w w1 : Walker} {r : std.Result C MdfError} where
-  pub group_entered : (a : ℕ) → Does f w r w1 (entered CG a (no_records n) channel_group_block_of >>= channel_group_links fuel n got)
+  pub group_entered : (a : ℕ) → Does f w r w1 (entered CG a (no_records n) channel_group_block_of >>= channel_group_links fuel n a got)
       → Does f w r w1 (enter_channel_group fuel n a got)
   unfolding enter_channel_group ◌>>=◌ ◌>>◌ addr link_of make_link shape words channel_group_block_of cg_records
-  group_entered a p = behind channel_group_block_of CG a (no_records n) _ (channel_group_links fuel n got) (λ r o s. refl) p
+  group_entered a p = behind channel_group_block_of CG a (no_records n) _ (channel_group_links fuel n a got) (λ r o s. refl) p
 
 -- what a chain hands down, once its groups so far have the record layout x of the first one
 abbrev pub handed_of : ℕ → Option declared.RecordLayout → Handed

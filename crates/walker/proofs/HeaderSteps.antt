@@ -4,6 +4,7 @@ use Rattle.std.proofs.Common.{◌≡◌, refl, sym, ℕ, List, [], ◌∷◌}
 use Rattle.mdf4.specs.Bytes.{little, num, words}
 use Rattle.mdf4.specs.Act.{Out, ok, err, and_then, ID, HD, ◌>>=◌, ◌>>◌}
 use Rattle.mdf4.specs.Kinds.{shape, is, no_records, mark_in, records_in, read_block, make_link, name_ok}
+use Rattle.mdf4.specs.Walk as definition
 use Rattle.mdf4.specs.Walk.{content_ok, enter, addr, link_of}
 use Rattle.mdf4.proofs.Results.{and_then_ok}
 use Rattle.blocks.specs.IdentificationBlock.{Identification, identification_of, identification}
@@ -88,5 +89,5 @@ header_found r {b} e z = let p = parsed_ok header_block_of HD r 64 (sym e) in rw
 -- the walk behind it
 module _ {C : Type 0} (fuel : ℕ) {f : C → Unit {0}} {w w1 : Walker} {r : std.Result C MdfError} where
   pub header_entered : Does f w r w1 (entered HD 64 (no_records 0) header_block_of >>= header_links fuel) → Does f w r w1 (enter_header fuel)
-  unfolding enter_header ◌>>=◌ ◌>>◌ addr link_of make_link shape words header_block_of
+  unfolding enter_header definition.walk_from_header ◌>>=◌ ◌>>◌ addr link_of make_link shape words header_block_of
   header_entered p = behind header_block_of HD 64 (no_records 0) _ (header_links fuel) (λ r o s. refl) p

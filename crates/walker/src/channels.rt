@@ -50,10 +50,14 @@ fn walk_channel_texts(
 ) -> Result<(), MdfError>
     ensures { Walks walker.old result walker.new (channel_texts addr channel) }
 {
+    walker.follow(addr, 2);
     walk_text_like(walker, channel.name_addr)?;
+    walker.follow(addr, 3);
     walk_source(walker, channel.source_addr)?;
     walk_conversion(walker, addr, channel.conversion_addr)?;
+    walker.follow(addr, 6);
     walk_text_like(walker, channel.unit_addr)?;
+    walker.follow(addr, 7);
     walk_text_like(walker, channel.comment_addr)
 }
 
@@ -74,7 +78,9 @@ fn enter_channel(walker: &mut Walker<'_>, addr: u64) -> Result<u64, MdfError>
 {
     let channel = open_channel(walker, addr)?;
     walk_channel_texts(walker, addr, channel)?;
+    walker.follow(addr, 5);
     walk_channel_data(walker, channel)?;
+    walker.follow(addr, 0);
     Ok(channel.next_ch_addr)
 }
 

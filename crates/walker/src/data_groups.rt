@@ -38,10 +38,14 @@ fn enter_data_group(walker: &mut Walker<'_>, addr: u64) -> Result<u64, MdfError>
     ensures { (fuel : ℕ) → length walker.old.visited.now ≤ fuel → Does next_at walker.old result walker.new (enter_data_group fuel addr) }
 {
     let group = open_data_group(walker, addr)?;
+    walker.follow(addr, 3);
     walk_text_like(walker, group.comment_addr)?;
+    walker.follow(addr, 1);
     let layout = walk_channel_groups(walker, group.first_cg_addr, group.record_id_len)?;
     let link = walker.make_link(group.data_block_addr);
+    walker.follow(addr, 2);
     walk_data_region(walker, link, layout, MAX_LISTS)?;
+    walker.follow(addr, 0);
     Ok(group.next_dg_addr)
 }
 

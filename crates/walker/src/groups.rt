@@ -86,10 +86,15 @@ fn enter_channel_group(
     ensures { (fuel : ℕ) (got : walk.Handed) → length walker.old.visited.now ≤ fuel → Does (grouped_at got) walker.old result walker.new (enter_channel_group fuel record_id_len addr got) }
 {
     let group = open_channel_group(walker, addr, record_id_len)?;
+    walker.follow(addr, 2);
     walk_text_like(walker, group.acq_name_addr)?;
+    walker.follow(addr, 3);
     walk_source(walker, group.acq_source_addr)?;
+    walker.follow(addr, 5);
     walk_text_like(walker, group.comment_addr)?;
+    walker.follow(addr, 1);
     walk_channels(walker, group.first_ch_addr)?;
+    walker.follow(addr, 0);
     Ok(Grouped {
         next: group.next_cg_addr,
         layout: group_layout(record_id_len, group),

@@ -69,7 +69,9 @@ fn enter_header(walker: &mut Walker<'_>) -> Result<(), MdfError>
     ensures { (fuel : ℕ) → length walker.old.visited.now ≤ fuel → Walks walker.old result walker.new (enter_header fuel) }
 {
     let header = open_header(walker)?;
+    walker.follow(HeaderBlock::OFFSET, 5);
     walk_text_like(walker, header.comment_addr)?;
+    walker.follow(HeaderBlock::OFFSET, 0);
     walk_data_groups(walker, header.first_dg_addr)
 }
 

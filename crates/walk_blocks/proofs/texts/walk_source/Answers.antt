@@ -2,7 +2,7 @@
 use Rattle.mdf4.specs.Act.{SI}
 use Rattle.mdf4.specs.Kinds.{no_records}
 use Rattle.mdf4.specs.Walk.{walk_source}
-use Rattle.walk_state.proofs.Steps.{handed, next, halt, halt_next}
+use Rattle.walk_state.proofs.Steps.{handed, next, halt, halt_next, led}
 use Rattle.walk_blocks.proofs.Entering.{enter_refused, found_enters}
 use Rattle.walk_blocks.proofs.Walking.{link_null, link_halt, link_old, link_new, source_refused, source_found, source_then}
 use Rattle.walk_blocks.proofs.texts.walk_source.Goals as goal
@@ -38,7 +38,7 @@ returns-in_err-walk_text_like c =
     let f = source_found _ _ c.in_ok-source.ensures c.plain-block.ensures in
     link_new SI _ _ c.if-addr-eq0.false c.if-not-branch.false (c.in_ok-mark.ensures SI)
     (source_then _ _ _ _ (found_enters f (c.in_ok-list_block.ensures (no_records 0) f.own f.tells))
-    (handed _ c.from_residual-in_err-walk_text_like.ensures.1 (halt_next _ (halt_next _ c.in_err-walk_text_like.ensures))))
+    (handed _ c.from_residual-in_err-walk_text_like.ensures.1 (halt_next _ (halt_next _ (led _ _ c.follow.ensures c.in_err-walk_text_like.ensures)))))
 
 pub returns-in_err-walk_text_like-2 : goal.returns-in_err-walk_text_like-2
 unfolding walk_source
@@ -47,7 +47,7 @@ returns-in_err-walk_text_like-2 c =
     link_new SI _ _ c.if-addr-eq0.false c.if-not-branch.false (c.in_ok-mark.ensures SI)
     (source_then _ _ _ _ (found_enters f (c.in_ok-list_block.ensures (no_records 0) f.own f.tells))
     (handed _ c.from_residual-in_err-walk_text_like-2.ensures.1
-    (halt_next _ (next c.in_ok-walk_text_like.ensures c.in_err-walk_text_like-2.ensures))))
+    (halt_next _ (next (led _ _ c.follow.ensures c.in_ok-walk_text_like.ensures) (led _ _ c.follow-2.ensures c.in_err-walk_text_like-2.ensures)))))
 
 pub returns : goal.returns
 unfolding walk_source
@@ -55,4 +55,5 @@ returns c =
     let f = source_found _ _ c.in_ok-source.ensures c.plain-block.ensures in
     link_new SI _ _ c.if-addr-eq0.false c.if-not-branch.false (c.in_ok-mark.ensures SI)
     (source_then _ _ _ _ (found_enters f (c.in_ok-list_block.ensures (no_records 0) f.own f.tells))
-    (next (next c.in_ok-walk_text_like.ensures c.in_ok-walk_text_like-2.ensures) c.walk_text_like-3.ensures))
+    (next (next (led _ _ c.follow.ensures c.in_ok-walk_text_like.ensures) (led _ _ c.follow-2.ensures c.in_ok-walk_text_like-2.ensures))
+    (led _ _ c.follow-3.ensures c.walk_text_like-3.ensures)))
