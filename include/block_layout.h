@@ -3,13 +3,14 @@
  *
  * A lent table or the recording is passed as a pointer and the number of its words or bytes. No pointer may be null, not even one
  * with the number 0, each must be aligned for its words, and nothing lent may overlap anything else that is passed.
- * An entry reads the recording and writes the tables, the output or counts, and the answer only, whatever the recording holds. The
+ * An entry reads the recording and writes the tables, the output, path or counts, and the answer only, whatever the recording holds. The
  * blanker alone writes the recording too, and only where it accepts.
  *
- * Rows: a word of the visited table; 12 words of the block table (offset, end, size, mark, kind, index, first link, link count,
- * record size, invalidation bytes, record id length, tree mark); 2 words of the link table (target, then 0 or 1 + the mark found
- * there); 2 words of the gap table (start, end); a word of the preview's counts. Words and bytes not in use are 0, and a refusal leaves
- * every table, the output and the counts 0.
+ * Rows: a word of the visited table; 14 words of the block table (offset, end, size, mark, kind, index, first link, link count,
+ * record size, invalidation bytes, record id length, tree mark; then which link the walk followed when it listed the row: the offset of
+ * the block that has it, and its position from 0 among those shown; 0 and 0 for the ID and the header); 2 words of the link table
+ * (target, then 0 or 1 + the mark found there); 2 words of the gap table (start, end); a word of a path or of the preview's counts. Words
+ * and bytes not in use are 0, and a refusal leaves every table, the output, the path and the counts 0.
  */
 #ifndef BLOCK_LAYOUT_H
 #define BLOCK_LAYOUT_H
@@ -34,7 +35,7 @@ enum {
     BLOCK_LAYOUT_BLOCKS = 5,
     BLOCK_LAYOUT_LINKS = 6,
     BLOCK_LAYOUT_GAPS = 7,
-    BLOCK_LAYOUT_BYTES = 8, /* bytes in use of the output; of the preview, the number of its counts */
+    BLOCK_LAYOUT_BYTES = 8, /* bytes in use of the output; words of the path; the number of the preview's counts */
     BLOCK_LAYOUT_TOTAL = 9, /* of the preview, the sum of its counts; else 0 */
     BLOCK_LAYOUT_ANSWER_WORDS = 10
 };
@@ -63,6 +64,20 @@ void block_layout_c_tree(const uint8_t *data, size_t data_len,
                          uint64_t *links, size_t links_len,
                          uint64_t *gaps, size_t gaps_len,
                          uint8_t *out, size_t out_len,
+                         uint64_t *answer, size_t answer_len);
+
+/*
+ * The path to the listed block at `offset`: the offsets from the header (64) to it, both included, a word each in `path`, along the
+ * links that the walk followed. None for the ID (0) and for an offset that no row has. A path table too short is refusal 13, after the
+ * gap table's: a the words lent, b the words needed. As many words as there are block rows suffice for any path.
+ */
+void block_layout_c_path(const uint8_t *data, size_t data_len,
+                         uint64_t *visited, size_t visited_len,
+                         uint64_t *blocks, size_t blocks_len,
+                         uint64_t *links, size_t links_len,
+                         uint64_t *gaps, size_t gaps_len,
+                         uint64_t *path, size_t path_len,
+                         uint64_t offset,
                          uint64_t *answer, size_t answer_len);
 
 /*

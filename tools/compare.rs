@@ -5,15 +5,17 @@
 //!
 //! The oracle's program is part of this one (ORACLE_MAIN names a copy of its main.rs whose `main` is renamed), so the Rust runs here,
 //! unchanged. So is the amended oracle's (AMENDED_MAIN; see amend.py): where the Rust panics on a channel's name with a block_len under
-//! 24, what is expected is the amended Rust's answer, and everywhere else both must answer alike. All six entries are called: compared
-//! are all words of the tables, listing and tree byte for byte, or the refusal's four numbers and all lent memory zero. The Rust has no
-//! clear list: its bytes are drawn here from the Rust's rows by the text of document 01 and of document 02's order 1. What the preview
-//! counts and the blanker leaves is drawn from these ranges, byte by byte; of all other calls the recording must be as it was. Blanking
-//! must change neither the Rust's answers nor the library's, but that the preview counts 0 throughout, and the blanker changes no byte
-//! again. Of accepted recordings, and of what their blanking leaves, the lent lengths are varied: all just long enough, then each table
-//! or the counts a word short and the output a byte short (10 to 14). That is done for one damaged recording in eight; for the others with
-//! the scratch table and the counts only. All lent memory is filled with ones before each call, and so is one word or byte behind it and
-//! behind the recording, which must stay.
+//! 24, what is expected is the amended Rust's answer, and everywhere else both must answer alike. All seven entries are called: compared
+//! are all words of the tables, listing and tree byte for byte, or the refusal's four numbers and all lent memory zero. The Rust does not
+//! answer which link the walk followed to a block (document 02, order 3): a walk of its own says it here, whose order of visits and listed blocks
+//! must be the Rust's; the paths are drawn from that. The Rust has no clear list either: its bytes are drawn here from the Rust's rows by
+//! the text of document 01 and of document 02's order 1. What the preview counts and the blanker leaves is drawn from these ranges, byte by
+//! byte; of all other calls the recording must be as it was. Blanking must change neither the Rust's answers nor the library's, but that
+//! the preview counts 0 throughout, and the blanker changes no byte again. Of accepted recordings, and of what their blanking leaves, the
+//! lent lengths are varied: all just long enough, then each table or the counts a word short and the output a byte short (10 to 14). That
+//! is done for one damaged recording in eight; for the others with the scratch table, the counts and the path table only. Paths are asked
+//! for with up to 24 rows, or four, spread over all of them, with the ID, the header and three offsets that have no row. All lent memory is
+//! filled with ones before each call, and so is one word or byte behind it and behind the recording, which must stay.
 //!
 //! Clear list, preview and blanker refuse an unfinalised recording with 16 (document 02, order 4), also where gap table, scratch table,
 //! counts and output are short or empty, but not before the walk's own refusals. A copy with both words 0 is held as well, as any
@@ -37,6 +39,7 @@ macro_rules! asked {
             match answer {
                 Answer::Accepted(a) => {
                     let Tables { visited, blocks, links, gaps } = tables(data, &a);
+                    let blocks = crate::widened(data, &visited, &blocks, &links);
                     crate::Want::Accepted(crate::whole(data, crate::Rows { visited, blocks, links, gaps }, a.text, a.tree))
                 }
                 Answer::Error(_, Some(r)) | Answer::Panic(_, Some(r)) => crate::Want::Refused(r),
@@ -85,6 +88,16 @@ extern "C" {
         out: *mut u8, out_len: usize,
         answer: *mut u64, answer_len: usize,
     );
+    fn block_layout_c_path(
+        data: *const u8, data_len: usize,
+        visited: *mut u64, visited_len: usize,
+        blocks: *mut u64, blocks_len: usize,
+        links: *mut u64, links_len: usize,
+        gaps: *mut u64, gaps_len: usize,
+        path: *mut u64, path_len: usize,
+        offset: u64,
+        answer: *mut u64, answer_len: usize,
+    );
     fn block_layout_c_clear(
         data: *const u8, data_len: usize,
         visited: *mut u64, visited_len: usize,
@@ -124,8 +137,11 @@ enum Entry {
     Clear,
     Preview,
     Blank,
+    /// With the offset asked for.
+    Path(u64),
 }
 
+/// All but the path.
 const ENTRIES: [Entry; 6] = [Entry::Layout, Entry::Text, Entry::Tree, Entry::Clear, Entry::Preview, Entry::Blank];
 
 impl Entry {
@@ -139,17 +155,18 @@ impl Entry {
     }
 }
 
-/// What is lent besides the answer: words of five tables and of the counts, bytes of the output; a row of each, and the refusal of one too
-/// short.
-const LENT: [&str; 7] = ["visited", "blocks", "links", "gaps", "scratch", "counts", "output"];
-const ROW: [usize; 7] = [1, 12, 2, 2, 2, 1, 1];
-const SHORT: [u64; 7] = [10, 11, 12, 13, 13, 13, 14];
+/// What is lent besides the answer: words of five tables, of the counts and of the path, bytes of the output; a row of each, and the
+/// refusal of one too short.
+const LENT: [&str; 8] = ["visited", "blocks", "links", "gaps", "scratch", "counts", "path", "output"];
+const ROW: [usize; 8] = [1, 14, 2, 2, 2, 1, 1, 1];
+const SHORT: [u64; 8] = [10, 11, 12, 13, 13, 13, 13, 14];
 const GAPS: usize = 3;
 const SCRATCH: usize = 4;
 const COUNTS: usize = 5;
-const OUT: usize = 6;
+const PATH: usize = 6;
+const OUT: usize = 7;
 
-type Lengths = [usize; 7];
+type Lengths = [usize; 8];
 
 /// Words of an answer.
 const ANSWER: usize = 10;
@@ -157,7 +174,7 @@ const ANSWER: usize = 10;
 /// What a call leaves: the answer, and the words and bytes in use. All others are zero. The recording is as it was, or as said here.
 struct Exit<'a> {
     answer: [u64; ANSWER],
-    tables: [&'a [u64]; 6],
+    tables: [&'a [u64]; 7],
     out: &'a [u8],
     left: Option<&'a [u8]>,
 }
@@ -165,14 +182,14 @@ struct Exit<'a> {
 fn refusal(r: [u64; 4]) -> Exit<'static> {
     let mut answer = [0; ANSWER];
     answer[..4].copy_from_slice(&r);
-    Exit { answer, tables: [&[]; 6], out: &[], left: None }
+    Exit { answer, tables: [&[]; 7], out: &[], left: None }
 }
 
 /// Lent memory and the recording, with one word or byte more than is lent.
 #[derive(Default)]
 struct Lent {
     answer: [u64; ANSWER + 1],
-    tables: [Vec<u64>; 6],
+    tables: [Vec<u64>; 7],
     out: Vec<u8>,
     data: Vec<u8>,
 }
@@ -193,9 +210,9 @@ impl Lent {
 
     fn call(&mut self, entry: Entry, data: &[u8], n: &Lengths) {
         self.fill(data, n);
-        let [visited, blocks, links, gaps, scratch, counts] = &mut self.tables;
+        let [visited, blocks, links, gaps, scratch, counts, path] = &mut self.tables;
         macro_rules! lent {
-            ($f:ident $(, $t:expr, $n:expr)*) => {
+            ($f:ident $(, $t:expr, $n:expr)* $(; $offset:expr)?) => {
                 $f(
                     self.data.as_mut_ptr(), data.len(),
                     visited.as_mut_ptr(), n[0],
@@ -203,6 +220,7 @@ impl Lent {
                     links.as_mut_ptr(), n[2],
                     gaps.as_mut_ptr(), n[GAPS],
                     $($t.as_mut_ptr(), $n,)*
+                    $($offset,)?
                     self.answer.as_mut_ptr(), ANSWER,
                 )
             };
@@ -215,6 +233,7 @@ impl Lent {
                 Entry::Clear => lent!(block_layout_c_clear, scratch, n[SCRATCH], self.out, n[OUT]),
                 Entry::Preview => lent!(block_layout_c_preview, scratch, n[SCRATCH], counts, n[COUNTS]),
                 Entry::Blank => lent!(block_layout_c_blank, scratch, n[SCRATCH]),
+                Entry::Path(offset) => lent!(block_layout_c_path, path, n[PATH]; offset),
             }
         }
     }
@@ -246,11 +265,14 @@ fn is<T: PartialEq + Default>(t: &[T], w: &[T], last: T) -> bool {
     n >= w.len() && t[..w.len()] == *w && t[w.len()..n].iter().all(|x| *x == T::default()) && t[n] == last
 }
 
-/// Document 01's tables, as words.
+/// A block row: the Rust's twelve words, the block whose link was followed, the link's position.
+type Row = [u64; 14];
+
+/// Document 01's tables, as words, the block rows with order 3's two.
 #[derive(PartialEq)]
 struct Rows {
     visited: Vec<u64>,
-    blocks: Vec<[u64; 12]>,
+    blocks: Vec<Row>,
     links: Vec<[u64; 2]>,
     gaps: Vec<[u64; 2]>,
 }
@@ -259,7 +281,7 @@ struct Rows {
 #[derive(PartialEq)]
 struct Whole {
     rows: Rows,
-    marked: Vec<[u64; 12]>,
+    marked: Vec<Row>,
     text: String,
     tree: String,
     clear: Vec<u8>,
@@ -290,13 +312,96 @@ fn whole(data: &[u8], rows: Rows, text: String, tree: String) -> Whole {
     let mut marked = rows.blocks.clone();
     marked.iter_mut().for_each(|b| b[11] = 1);
     let spared = spared(data, &rows);
-    let last = |f: &dyn Fn(&[u64; 12]) -> bool| {
-        let row = |v: &u64| rows.blocks.binary_search_by_key(v, |b| b[0]).is_ok_and(|k| f(&rows.blocks[k]));
+    let last = |f: &dyn Fn(&Row) -> bool| {
+        let row = |v: &u64| row_at(&rows.blocks, *v).is_some_and(f);
         rows.visited.iter().copied().rfind(row).unwrap()
     };
     let places = [*rows.visited.last().unwrap(), last(&|_| true), last(&|b| b[7] > 0)];
     let clear = clear_list(data, &rows.gaps, &spared);
     Whole { places, clear, scratch_rows: spared.len(), marked, text, tree, rows }
+}
+
+/// The row of the block at the offset.
+fn row_at<const N: usize>(blocks: &[[u64; N]], offset: u64) -> Option<&[u64; N]> {
+    blocks.binary_search_by_key(&offset, |b| b[0]).ok().map(|k| &blocks[k])
+}
+
+/// As what the walk takes the target of a link.
+#[derive(Clone, Copy)]
+enum As {
+    DataGroup,
+    ChannelGroup,
+    Channel,
+    Source,
+    Text,
+    Region,
+}
+
+/// The positions of a block's links that the walk follows, in its order. Conversions are refused where they are entered.
+fn onward(data: &[u8], at: u64, to: As) -> Vec<(As, u64)> {
+    use As::*;
+    let links_nr = u64_at(data, at + 16);
+    match to {
+        DataGroup => vec![(Text, 3), (ChannelGroup, 1), (Region, 2), (DataGroup, 0)],
+        ChannelGroup => vec![(Text, 2), (Source, 3), (Text, 5), (Channel, 1), (ChannelGroup, 0)],
+        Channel if data[at as usize + 88] == 1 => vec![(Text, 2), (Source, 3), (Text, 6), (Text, 7), (Region, 5), (Channel, 0)],
+        Channel => vec![(Text, 2), (Source, 3), (Text, 6), (Text, 7), (Channel, 0)],
+        Source => (0..links_nr.min(3)).map(|i| (Text, i)).collect(),
+        Region if mark_at(data, at) == mark_of("##DL") => (1..links_nr).chain([0]).map(|i| (Region, i)).collect(),
+        Text | Region => Vec::new(),
+    }
+}
+
+/// The walk of an accepted recording: the offsets in the order in which they are marked; and for each that is listed, the block whose link
+/// was followed and the link's position.
+fn followed(data: &[u8]) -> (Vec<u64>, std::collections::BTreeMap<u64, [u64; 2]>) {
+    let mut visits = vec![0, 64];
+    let mut by = std::collections::BTreeMap::from([(0, [0, 0]), (64, [0, 0])]);
+    let mut seen: std::collections::HashSet<u64> = visits.iter().copied().collect();
+    // Links not followed yet, the next of them last.
+    let mut left = vec![(As::DataGroup, 64, 0), (As::Text, 64, 5)];
+    while let Some((to, block, position)) = left.pop() {
+        let at = u64_at(data, block + 24 + 8 * position);
+        let has = |n| (data.len() as u64).checked_sub(at).is_some_and(|left| left >= n);
+        if at == 0 || matches!(to, As::Region) && !has(4) || !seen.insert(at) {
+            continue;
+        }
+        visits.push(at);
+        if has(24) {
+            by.insert(at, [block, position]);
+            left.extend(onward(data, at, to).into_iter().rev().map(|(to, i)| (to, at, i)));
+        }
+    }
+    (visits, by)
+}
+
+/// The Rust's block rows with order 3's words. Stops unless the walk here visits and lists what the Rust does, by links that it shows.
+fn widened(data: &[u8], visited: &[u64], blocks: &[[u64; 12]], links: &[[u64; 2]]) -> Vec<Row> {
+    let (visits, by) = followed(data);
+    assert!(visits == visited, "another order of visits");
+    assert!(by.keys().eq(blocks.iter().map(|b| &b[0])), "other blocks are listed");
+    let widen = |row: &[u64; 12]| {
+        let [block, position] = by[&row[0]];
+        let from = row_at(blocks, block).expect("a listed block");
+        let shown = || position < from[7] && links[(from[6] + position) as usize][0] == row[0];
+        assert!(row[0] == 0 || row[0] == 64 || shown(), "no such link is shown");
+        let mut wide = [0; 14];
+        wide[..12].copy_from_slice(row);
+        wide[12..].copy_from_slice(&[block, position]);
+        wide
+    };
+    blocks.iter().map(widen).collect()
+}
+
+/// The offsets from the header to the block at this one, both included; none for the ID and for an offset that no row has.
+fn path_to(blocks: &[Row], offset: u64) -> Vec<u64> {
+    if offset == 0 || row_at(blocks, offset).is_none() {
+        return Vec::new();
+    }
+    let up = |at: &u64| (*at != 64).then(|| row_at(blocks, *at).expect("a listed block")[12]);
+    let mut path: Vec<u64> = std::iter::successors(Some(offset), up).collect();
+    path.reverse();
+    path
 }
 
 /// The bytes of document 01's "Read, per listed block".
@@ -405,8 +510,8 @@ fn blanking(data: &[u8], clr: &[u8]) -> Blanking {
 impl Whole {
     fn exit<'a>(&'a self, entry: Entry, of: &'a Blanking) -> Exit<'a> {
         let t = &self.rows;
-        let (blocks, out): (&[[u64; 12]], &[u8]) = match entry {
-            Entry::Layout | Entry::Preview | Entry::Blank => (&t.blocks, b""),
+        let (blocks, out): (&[Row], &[u8]) = match entry {
+            Entry::Layout | Entry::Preview | Entry::Blank | Entry::Path(_) => (&t.blocks, b""),
             Entry::Text => (&t.blocks, self.text.as_bytes()),
             Entry::Tree => (&self.marked, self.tree.as_bytes()),
             Entry::Clear => (&t.blocks, &self.clear),
@@ -416,14 +521,35 @@ impl Whole {
         let mut answer = [0; ANSWER];
         answer[4..9].copy_from_slice(&rows);
         answer[9] = counts.iter().sum();
-        let tables = [&t.visited, blocks.as_flattened(), t.links.as_flattened(), t.gaps.as_flattened(), &[], counts];
+        let tables = [&t.visited, blocks.as_flattened(), t.links.as_flattened(), t.gaps.as_flattened(), &[], counts, &[]];
         Exit { answer, tables, out, left: (entry == Entry::Blank).then_some(&of.left) }
+    }
+
+    /// What a call for this path leaves: the tables as `layout` does.
+    fn path_exit<'a>(&'a self, path: &'a [u64], of: &'a Blanking) -> Exit<'a> {
+        let mut exit = self.exit(Entry::Layout, of);
+        exit.answer[8] = path.len() as u64;
+        exit.tables[PATH] = path;
+        exit
+    }
+
+    /// Offsets to ask the path for: so many rows, spread over all, the ID, the header, and three without a row.
+    fn asked_for(&self, data: &[u8], most: usize) -> Vec<u64> {
+        let (rows, n) = (&self.rows.blocks, self.rows.blocks.len());
+        let k = n.min(most);
+        let spread = (0..k).map(|j| rows[j * (n - 1) / (k - 1)][0]);
+        let inside = rows[n / 2][0] + 1;
+        let others = [0, 64, inside, data.len() as u64, u64::MAX];
+        let mut offsets: Vec<u64> = spread.chain(others).collect();
+        offsets.sort();
+        offsets.dedup();
+        offsets
     }
 
     fn exact(&self, entry: Entry, of: &Blanking) -> Lengths {
         let exit = self.exit(entry, of);
-        let [v, b, l, g, _, c] = exit.tables.map(|t| t.len());
-        [v, b, l, g, if entry.clears() { 2 * self.scratch_rows } else { 0 }, c, exit.out.len()]
+        let [v, b, l, g, _, c, _] = exit.tables.map(|t| t.len());
+        [v, b, l, g, if entry.clears() { 2 * self.scratch_rows } else { 0 }, c, 0, exit.out.len()]
     }
 
     /// The refusal if the k-th of the lent is a word or byte shorter than just enough.
@@ -452,14 +578,15 @@ fn links_at(data: &[u8], at: u64) -> u64 {
 }
 
 /// Lengths that suffice for any walk through the recording and aren't whole rows. Each row is shown once, and what is visited besides
-/// ID and HD is a shown link's target. Clear ranges are at most one more than scratch rows.
+/// ID and HD is a shown link's target. Clear ranges are at most one more than scratch rows, and a path has fewer words than there are rows.
 fn plenty(entry: Entry, data: &[u8], out: usize) -> Lengths {
     let links = marks(data).map(|at| links_at(data, at)).sum::<u64>() as usize;
     let rows = links + 2;
     let scratch_rows = rows + 3 * links;
     let scratch = if entry.clears() { 2 * scratch_rows + 1 } else { 0 };
     let counts = if entry == Entry::Preview { scratch_rows + 3 } else { 0 };
-    [rows, 12 * rows + 5, 2 * links + 1, 2 * rows + 3, scratch, counts, if entry.has_output() { out + 7 } else { 0 }]
+    let path = if matches!(entry, Entry::Path(_)) { rows + 3 } else { 0 };
+    [rows, 14 * rows + 5, 2 * links + 1, 2 * rows + 3, scratch, counts, path, if entry.has_output() { out + 7 } else { 0 }]
 }
 
 /// Whether the oracle has the same answer for the blanked recording.
@@ -479,7 +606,7 @@ fn hold_unfinalized(lent: &mut Lent, entry: Entry, data: &[u8], w: &Whole, r: [u
     lent.check(entry, data, &plenty(entry, data, w.clear.len()), &refusal(r), "unfinalised, plenty")?;
     lent.check(entry, data, &exact, &refusal(r), "unfinalised, exact")?;
     let [v, b, l, ..] = exact;
-    lent.check(entry, data, &[v, b, l, 0, 0, 0, 0], &refusal(r), "unfinalised, nothing for what follows the walk")?;
+    lent.check(entry, data, &[v, b, l, 0, 0, 0, 0, 0], &refusal(r), "unfinalised, nothing for what follows the walk")?;
     for k in tried(&exact, every) {
         let mut n = exact;
         n[k] -= 1;
@@ -513,6 +640,44 @@ fn hold_entry(lent: &mut Lent, entry: Entry, data: &[u8], w: &Whole, of: &Blanki
     if exact[COUNTS] > 0 { hold_no_counts(lent, data, w, &exact) } else { Ok(()) }
 }
 
+/// Holds the path to one offset: with more than enough, exactly, the path table a word short and empty (13), and then the gap table's 13,
+/// which comes first.
+fn hold_path(lent: &mut Lent, offset: u64, data: &[u8], w: &Whole, of: &Blanking) -> Result<(), String> {
+    let (entry, path) = (Entry::Path(offset), path_to(&w.rows.blocks, offset));
+    let (exit, mut exact) = (w.path_exit(&path, of), w.exact(Entry::Layout, of));
+    exact[PATH] = path.len();
+    lent.check(entry, data, &plenty(entry, data, 0), &exit, "plenty")?;
+    lent.check(entry, data, &exact, &exit, "exact")?;
+    if path.is_empty() {
+        return Ok(());
+    }
+    let mut n = exact;
+    for words in [path.len() - 1, 0] {
+        n[PATH] = words;
+        lent.check(entry, data, &n, &refusal([13, 0, words as u64, path.len() as u64]), "path")?;
+    }
+    if n[GAPS] > 0 {
+        n[GAPS] -= 1;
+        lent.check(entry, data, &n, &refusal(w.short(GAPS, &exact)), "no path, gaps")?;
+    }
+    Ok(())
+}
+
+/// Holds the path entry on an accepted recording; with every length varied also where a table of the walk is a word short: 10, 11 and 12,
+/// with no path table, come first.
+fn hold_paths(lent: &mut Lent, data: &[u8], w: &Whole, of: &Blanking, every: bool) -> Result<(), String> {
+    for offset in w.asked_for(data, if every { 24 } else { 4 }) {
+        hold_path(lent, offset, data, w, of)?;
+    }
+    let exact = w.exact(Entry::Layout, of);
+    for k in (0..GAPS).filter(|_| every) {
+        let mut n = exact;
+        n[k] -= 1;
+        lent.check(Entry::Path(64), data, &n, &refusal(w.short(k, &exact)), &format!("no path, {}", LENT[k]))?;
+    }
+    Ok(())
+}
+
 /// Holds the library on what blanking leaves of an accepted recording: every entry answers as before, but that nothing is left to count.
 fn hold_blanked(lent: &mut Lent, blank: &[u8], w: &Whole, every: bool) -> Result<(), String> {
     if !same_blanked(blank, w) {
@@ -520,7 +685,8 @@ fn hold_blanked(lent: &mut Lent, blank: &[u8], w: &Whole, every: bool) -> Result
     }
     let of = blanking(blank, &w.clear);
     assert!(of.left == blank && of.counts.iter().all(|n| *n == 0));
-    ENTRIES.iter().try_for_each(|e| hold_entry(lent, *e, blank, w, &of, every))
+    ENTRIES.iter().try_for_each(|e| hold_entry(lent, *e, blank, w, &of, every))?;
+    hold_paths(lent, blank, w, &of, every)
 }
 
 /// Holds the library on an accepted recording.
@@ -532,6 +698,7 @@ fn hold_accepted(lent: &mut Lent, data: &[u8], w: &Whole, every: bool) -> Result
             _ => hold_entry(lent, entry, data, w, &of, every)?,
         }
     }
+    hold_paths(lent, data, w, &of, every)?;
     if unfinalized.is_none() && of.left != data {
         hold_blanked(lent, &of.left, w, every).map_err(|what| format!("blanked: {what}"))?;
     }
@@ -540,7 +707,14 @@ fn hold_accepted(lent: &mut Lent, data: &[u8], w: &Whole, every: bool) -> Result
 
 /// Holds the library on a recording that the Rust refuses.
 fn hold_refused(lent: &mut Lent, data: &[u8], r: [u64; 4]) -> Result<(), String> {
-    ENTRIES.iter().try_for_each(|e| lent.check(*e, data, &plenty(*e, data, 24), &refusal(r), "refused"))
+    ENTRIES.iter().try_for_each(|e| lent.check(*e, data, &plenty(*e, data, 24), &refusal(r), "refused"))?;
+    for offset in [0, 64, 168, u64::MAX] {
+        let mut n = plenty(Entry::Path(offset), data, 0);
+        lent.check(Entry::Path(offset), data, &n, &refusal(r), "refused")?;
+        n[PATH] = 0;
+        lent.check(Entry::Path(offset), data, &n, &refusal(r), "refused, no path")?;
+    }
+    Ok(())
 }
 
 #[derive(Default)]
@@ -717,7 +891,7 @@ impl Base {
 /// The blocks that links lead to and that are not listed: offset, end, and no links.
 fn unlisted<'a>(data: &'a [u8], rows: &'a Rows) -> impl Iterator<Item = [u64; 3]> + 'a {
     let targets: std::collections::BTreeSet<u64> = rows.links.iter().map(|l| l[0]).filter(|t| is_block(data, *t)).collect();
-    let others = targets.into_iter().filter(|t| rows.blocks.binary_search_by_key(t, |b| b[0]).is_err());
+    let others = targets.into_iter().filter(|t| row_at(&rows.blocks, *t).is_none());
     others.map(|t| [t, t.saturating_add(u64_at(data, t + 8)), 0])
 }
 

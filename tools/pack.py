@@ -8,7 +8,8 @@ name a line: the amended answer counts where the Rust panics on a channel's name
 be alike. All of recordings/ are taken, and of each family of other names (all that stands before the first digit) an even sample. A
 recording of deep.py with 513 data lists is added; the Rust has no such limit, so its refusal is document 01's. Of one with 512,
 deep_lists_512.mf4, the tables alone are kept. Unfinalised recordings have no clear list (document 02, order 4): those that are accepted,
-but for those of tools/unfinalized.py and tools/blank.py, are added once more with both words 0.
+but for those of tools/unfinalized.py and tools/blank.py, are added once more with both words 0. The last two words of a block row, which
+the Rust has not, are those of tools/followed.py (order 3).
 
 The pack: for each recording 80 bytes, then its parts. First the ends of the parts as u32, counted from the first part on: recording,
 visited words, block words, link words, gap words, listing, tree, CLR bytes, words of the preview's counts; a part that is not compared
@@ -17,59 +18,25 @@ place of CLR bytes (both 0: it does not), and as u32 the counts' total. Then as 
 come where the table is one row short (0: no row to be short of); or the refusal's number, place, a and b. CLR bytes are drawn from the
 rows by the text of document 01 and of document 02's order 1 (tools/recorded.py), and the counts from these ranges and the recording,
 since the Rust has neither; those of tools/linked.py, tools/unfinalized.py and tools/blank.py are held against what is worked out
-there by hand.
+there by hand, and so are the links behind the rows of tools/paths.py.
 """
 import collections
 import os
 import re
 import struct
-import subprocess
 import sys
 import tempfile
 
 import blank
 import deep
+import followed
 import linked
+import paths
 import recorded
 import unfinalized
+from answers import RUST_ROW, expected, tables, words
 
 LARGEST = 16000
-
-# Refused, with the number that the oracle has for that panic. Nothing here answers it.
-SHORT_NAME = struct.pack("<2Q", 1, 8)
-
-
-def asked(oracle, names):
-    """Recording, rows, listing and tree of each name."""
-    with tempfile.TemporaryDirectory() as folder:
-        listed, pack = os.path.join(folder, "names"), os.path.join(folder, "pack")
-        with open(listed, "w") as o:
-            o.write("".join(name + "\n" for name in names))
-        subprocess.run([oracle, "--pack", pack, "@" + listed], check=True)
-        b = open(pack, "rb").read()
-    p = 8
-    for _ in range(struct.unpack_from("<Q", b)[0]):
-        parts = []
-        for _ in range(4):
-            n = struct.unpack_from("<Q", b, p)[0]
-            parts.append(b[p + 8:p + 8 + n])
-            p += 8 + n
-        yield parts
-
-
-def expected(oracle, amended, names):
-    """Each recording with what is expected of it, and whether that is the amended Rust's answer."""
-    for rust, other in zip(asked(oracle, names), asked(amended, names), strict=True):
-        if rust[1].startswith(SHORT_NAME):
-            assert rust[0] == other[0]
-            yield other, True
-        else:
-            assert rust == other, "the amended Rust differs"
-            yield rust, False
-
-
-def words(b):
-    return list(struct.unpack("<%dQ" % (len(b) // 8), b))
 
 
 def quads(ws):
@@ -93,18 +60,13 @@ def record(file, tables, text, tree, clear, counts, scratch, flags, four):
 def refused(name, file, four):
     unfinalized.check_refused(name, file, four)
     blank.check_refused(name, file, four)
+    paths.check_refused(name, file, four)
     return record(file, [[], [], [], []], b"", b"", b"", [], 0, (0, 0), four)
 
 
 def accepted(name, file, w, text, tree, count):
-    v, b, l, g = w[1:5]
-    cut = [5, 5 + v, 5 + v + 12 * b, 5 + v + 12 * b + 2 * l, 5 + v + 12 * b + 2 * l + 2 * g]
-    visited, blocks, links, gaps = [w[x:y] for x, y in zip(cut, cut[1:])]
-    rows = {}
-    for k in range(0, 12 * b, 12):
-        if blocks[k + 7] == 0:
-            blocks[k + 6] = 0    # the first link of a row without links is 0 (docs/DECISIONS.md)
-        rows[blocks[k]] = blocks[k + 7]
+    visited, blocks, links, gaps = tables(w)
+    rows = dict(zip(blocks[0::RUST_ROW], blocks[7::RUST_ROW]))
     listed = [x for x in visited if x in rows]
     showing = [x for x in listed if rows[x]]
     scratch, clear = recorded.clear_list(file, blocks, links, gaps)
@@ -115,6 +77,8 @@ def accepted(name, file, w, text, tree, count):
     unfinalized.check(name, file, flags, scratch, clear)
     counts = counts_of(file, clear)
     blank.check(name, file, scratch, clear, counts)
+    blocks = followed.widened(file, visited, blocks, links)
+    paths.check(name, file, blocks)
     count["blanked"] += not any(flags)
     count["blanked, bytes changed"] += any(counts)
     count["clear ranges"] += len(counts)
@@ -145,7 +109,7 @@ def put(o, count, name, parts, changed):
     if w[0] == 0:
         o.write(accepted(name, file, w, text, tree, count))
         count["accepted"] += 1
-        count.update("kind %d" % k for k in set(w[5 + w[1] + 4:5 + w[1] + 12 * w[2]:12]))
+        count.update("kind %d" % k for k in set(w[5 + w[1] + 4:5 + w[1] + RUST_ROW * w[2]:RUST_ROW]))
     elif w[0] == 1:
         o.write(refused(name, file, w[1:5]))
         count["refused %d" % w[1]] += 1

@@ -15,8 +15,10 @@ import sys
 import tempfile
 
 import deep
+import followed
 import recorded
 import unfinalized
+from answers import tables
 
 BYTES, WORDS = 65536, 8192
 FOLDER = os.path.join("crates", "programs")
@@ -38,8 +40,8 @@ def recordings():
         "identification_alone": ident,
         "longest": alone + bytes(BYTES - len(alone)),
         "too_long": alone + bytes(BYTES + 1 - len(alone)),
-        "data_blocks_678": data_blocks(678),
-        "data_blocks_679": data_blocks(679),
+        "data_blocks_581": data_blocks(581),
+        "data_blocks_582": data_blocks(582),
         "channels_400": deep.channels(400, 0),
         "unfinalized_tree": unfinalized.MADE["unfinalized_tree"][0],
     }
@@ -57,14 +59,13 @@ def printed(recording, rows, text, tree):
     if w[0] == 1:
         return [refused(*w[1:5])] * 3
     v, b, l, g = w[1:5]
-    lent = WORDS // 12
-    visited, blocks = w[5:5 + v], w[5 + v:5 + v + 12 * b]
+    lent = WORDS // followed.ROW
+    visited, blocks, links, gaps = tables(w)
     if b > lent:
         # 11 comes at the first block of the walk that has no row left; all that is visited here is listed
         return [refused(11, visited[lent], lent, 0)] * 3
     assert v <= WORDS and 2 * l <= WORDS and 2 * g <= WORDS
-    at = 5 + v + 12 * b
-    scratch, clear = recorded.clear_list(recording, blocks, w[at:at + 2 * l], w[at + 2 * l:])
+    scratch, clear = recorded.clear_list(recording, blocks, links, gaps)
     assert 2 * scratch <= WORDS
     made = [x if len(x) <= BYTES else refused(14, 0, BYTES, len(x)) for x in (text, tree, clear)]
     flags = recorded.flag_words(recording)

@@ -6,14 +6,18 @@
 FILE.. are recordings; without one, those of recordings/ whose modules crates/CRATE/proofs/Lib.antt lists. ANSWERS is the folder that
 the oracle's `--out` wrote for them (NAME.rows, and NAME.text and NAME.tree of an accepted one), AMENDED the one that the amended
 oracle's did (tools/amend.py): its answer counts where the Rust panics on a channel's name with a block_len under 24. The modules and
-Lib.antt go to crates/CRATE/proofs/. Each row is proved by computation, so a definition that answers otherwise is refused. The clear
-list, which the Rust has not, is drawn here from the rows by the text of document 01 and of document 02's order 1, apart from the
-definition; that of an unfinalised recording is refusal 16 (order 4), with as much lent as its clear list would need.
+Lib.antt go to crates/CRATE/proofs/. Each row is proved by computation, so a definition that answers otherwise is refused. The links
+behind the block rows and the longest path (order 3), which the Rust has not, are those of tools/followed.py. The clear list, which it
+has not either, is drawn here from the rows by the text of document 01 and of document 02's order 1, apart from the definition; that of
+an unfinalised recording is refusal 16 (order 4), with as much lent as its clear list would need.
 """
 import glob
 import os
 import struct
 import sys
+
+import followed
+from answers import RUST_ROW, tables
 
 USES = """use mathlib.Core.Path.{◌≡◌, refl}
 use mathlib.Core.List.{List, [], ◌∷◌, ◌++◌}
@@ -21,7 +25,7 @@ use Prim.Native.Nat.{ℕ}
 use lib.ListN.{replicate}
 use Rattle.fmt.specs.Text.{ascii}
 use Rattle.mdf4.specs.Act.{%s}
-use Rattle.mdf4.specs.Answers.{layout_exit, to_text_exit, to_tree_exit, clear_list_exit}
+use Rattle.mdf4.specs.Answers.{layout_exit, to_text_exit, to_tree_exit, path_exit, clear_list_exit}
 use Rattle.mdf4.proofs.Computed.{computed}
 use Rattle.mdf4.proofs.Recordings.{%s}
 
@@ -90,9 +94,9 @@ def num(r, a, n):
 
 
 def clear_list(r, blocks, links, gaps):
-    """Scratch rows and CLR bytes, from the text of document 01 and of document 02's order 1."""
+    """Scratch rows and CLR bytes, from the Rust's rows by the text of document 01 and of document 02's order 1."""
     reads, kept = [], []
-    for k in range(0, len(blocks), 12):
+    for k in range(0, len(blocks), RUST_ROW):
         off, kind, first = blocks[k], blocks[k + 4], blocks[k + 6]
         block_len, links_nr = num(r, off + 8, 8), num(r, off + 16, 8)
         n = {1: 64, 2: 104, 3: 64, 5: 160}.get(kind, 24)
@@ -151,10 +155,9 @@ def module(name, r, answers, amended):
         base, whose = other, "the amended Rust"
     w = rows_of(base)
     assert w == rows_of(other), "the amended Rust differs"
-    out = "-- %s.mf4, as %s answers it.\n" % (name, whose)
+    out = "-- %s.mf4, as %s answers it; links behind rows, path and clear list as the scripts draw them.\n" % (name, whose)
     flags = flag_words(r)
-    accepts = "ok, err, refusal" if any(flags) else "ok"
-    out += USES % ((accepts, "lent, counts") if w[0] == 0 else ("err, refusal", "lent"))
+    out += USES % (("ok, err, refusal", "lent, counts") if w[0] == 0 else ("err, refusal", "lent"))
     out += "recording : List ℕ\nrecording =\n%s\n\n" % content(r)
 
     def refused(label, entry, lent, four):
@@ -162,39 +165,35 @@ def module(name, r, answers, amended):
                " links = replicate %d 0; gaps = replicate %d 0; scratch = replicate %d 0; out = replicate %d 0 }\n" \
                "unfolding computed recording\n%s = refl\n\n" % ((label, entry) + lent + four + lent + (label,))
     if w[0] == 1:
-        for label, entry in (("layout", "layout_exit"), ("text", "to_text_exit"), ("tree", "to_tree_exit"), ("clear", "clear_list_exit")):
-            out += refused(label, entry, (999, 9999, 999, 999, 999, 9), w[1:5])
+        for label, entry in (("layout", "layout_exit"), ("text", "to_text_exit"), ("tree", "to_tree_exit"), ("path", "path_exit 64"),
+                             ("clear", "clear_list_exit")):
+            out += refused(label, entry, (999, 11665, 999, 999, 999, 9), w[1:5])
         return out.rstrip("\n") + "\n"
     v, b, l, g = w[1:5]
-    p = 5
-    visited, p = w[p:p + v], p + v
-    blocks, p = list(w[p:p + 12 * b]), p + 12 * b
-    links, p = w[p:p + 2 * l], p + 2 * l
-    gaps = w[p:p + 2 * g]
-    for k in range(0, 12 * b, 12):
-        if blocks[k + 7] == 0:
-            blocks[k + 6] = 0    # the first link of a row without links is 0 (docs/DECISIONS.md)
+    visited, blocks, links, gaps = tables(w)
     text, tree = open(base + ".text", "rb").read(), open(base + ".tree", "rb").read()
     scratch, clr = clear_list(r, blocks, links, gaps)
-    tables = "".join("%s : List ℕ\n%s =\n%s\n\n" % (n, n, table(x)) for n, x in (("visited", visited), ("links", links), ("gaps", gaps)))
-    out += tables
+    blocks = followed.widened(r, visited, blocks, links)
+    out += "".join("%s : List ℕ\n%s =\n%s\n\n" % (n, n, table(x)) for n, x in (("visited", visited), ("links", links), ("gaps", gaps)))
 
     def exits(tree_mark):
-        for k in range(0, 12 * b, 12):
-            blocks[k + 11] = tree_mark
+        blocks[11::followed.ROW] = [tree_mark] * b
         return wrapped([str(x) for x in blocks] + ["[]"], "∷")
 
     def answer(label, entry, scratch_words, out_bytes, tree_mark, shown):
         return "%s : %s (lent %d %d %d %d %d %d) recording\n    ≡ record { answer = ok (counts %d %d %d %d %d); visited = visited; blocks = %s; links = links; gaps = gaps; scratch = replicate %d 0; out =\n%s }\n" \
                "unfolding computed recording visited links gaps %s\n%s = refl\n\n" % (
-                   label, entry, v, 12 * b, 2 * l, 2 * g, scratch_words, out_bytes, v, b, l, g, out_bytes, tree_mark, scratch_words, shown, tree_mark, label)
+                   label, entry, v, len(blocks), 2 * l, 2 * g, scratch_words, out_bytes, v, b, l, g, out_bytes, tree_mark, scratch_words, shown, tree_mark, label)
     out += "blocks : List ℕ\nblocks =\n%s\n\n" % exits(0)
     out += answer("layout", "layout_exit", 0, 0, "blocks", "    []")
     out += answer("text", "to_text_exit", 0, len(text), "blocks", content(text, 1))
     if any(flags):
-        out += refused("clear", "clear_list_exit", (v, 12 * b, 2 * l, 2 * g, 2 * scratch, len(clr)), (16, 60) + flags)
+        out += refused("clear", "clear_list_exit", (v, len(blocks), 2 * l, 2 * g, 2 * scratch, len(clr)), (16, 60) + flags)
     else:
         out += answer("clear", "clear_list_exit", 2 * scratch, len(clr), "blocks", table(clr))
+    path = max((followed.path(blocks, offset) for offset in blocks[0::followed.ROW]), key=len)
+    out += answer("path", "path_exit %d" % path[-1], 0, len(path), "blocks", table(path))
+    out += refused("path_short", "path_exit %d" % path[-1], (v, len(blocks), 2 * l, 2 * g, 0, len(path) - 1), (13, 0, len(path) - 1, len(path)))
     out += "marked_blocks : List ℕ\nmarked_blocks =\n%s\n\n" % exits(1)
     out += answer("tree", "to_tree_exit", 0, len(tree), "marked_blocks", content(tree, 1))
     return out.rstrip("\n") + "\n"

@@ -23,7 +23,8 @@ answered (Ok a) = ok (record {
 })
 answered (Err e) = err (numbers e)
 
--- an answer with the words of the tables and the scratch table and the bytes of the output, or the preview's counts, at exit
+-- an answer with the words of the tables and the scratch table and the bytes of the output, or the words of a path or of the preview's
+-- counts, at exit
 unfoldable pub exit_with : Out Counts → List ℕ → List ℕ → List ℕ → List ℕ → List ℕ → List ℕ → Exit
 exit_with a v b l g scratch out = record { answer = a; visited = v; blocks = b; links = l; gaps = g; scratch = scratch; out = out }
 
@@ -41,7 +42,7 @@ pub record Long (n : Lent) (t : LentTables) (o : List ℕ) : Type 0 where
   pub gaps : length t.gaps.now ≡ n.gaps
   pub out : length o ≡ n.out
 
--- the bytes answered, or the number of the preview's counts, are at most k
+-- the bytes answered, or the words of a path or the preview's counts, are at most k
 pub record Fits (a : Answer) (k : ℕ) : Type 0 where
   pub is : IfOk a (λ x. x.bytes ≤ k)
 

@@ -12,8 +12,8 @@ ghost use Rattle.answers.specs.Entries.{Fits, Ends, Settled};
 use blocks::error::MdfError;
 use file_layout::{LentTables, Rows};
 
-// What an entry answers where it accepts: the rows of each table and the bytes of the output in use; of the preview the number of its
-// counts, in `bytes`, and their total, which is 0 of any other entry.
+// What an entry answers where it accepts: the rows of each table and the bytes of the output in use. `bytes` of a path is the number of
+// its words, of the preview that of its counts; `total` is the counts' total, and 0 of any other entry.
 #[derive(Clone, Copy, PartialEq, Eq)]
 pub struct Accepted {
     pub rows: Rows,

@@ -1,7 +1,8 @@
 -- Demand 3 of the entries, in its order, and what document 02's orders add. A call takes the recording r and lends tables and
 -- output of the lengths n; it answers a and leaves the words and bytes v, b, l, g, s and o, which `left` puts together. The hypothesis
--- on a call is its contract word for word (src/lib.rt here and in list_entry, blank_entry and preview_entry), so what stands here
--- holds of every call. Where an entry takes no scratch table or no output, s or o is []; the preview's output is its counts.
+-- on a call is its contract word for word (src/lib.rt here and in path_entry, list_entry, blank_entry and preview_entry), so what stands
+-- here holds of every call. Where an entry takes no scratch table or no output, s or o is []; the output of a path is its words, that of
+-- the preview its counts.
 use mathlib.Core.Path.{◌≡◌, refl, sym, ap, ◌∙◌}
 use mathlib.Core.List.{List, []}
 use Prim.Native.Nat.{ℕ}
@@ -12,12 +13,11 @@ use Rattle.mdf4.specs.Act.{Refusal, Out, ok, err}
 use Rattle.mdf4.specs.Clear.{clr_bytes}
 use Rattle.mdf4.specs.Blank.{zeroed}
 use Rattle.mdf4.specs.Answers as definition
-use Rattle.mdf4.specs.Answers.{Lent, Counts, Exit, Made}
-use Rattle.mdf4.specs.Answers.{layout_exit, to_text_exit, to_tree_exit, clear_list_exit, blank_exit, preview_exit, blank_recording}
-use Rattle.mdf4.specs.Demand3.{Alike, Again, Tables, Cleared, Finalizing, Unasked}
+use Rattle.mdf4.specs.Answers.{Lent, Counts, Exit, Made, layout_exit, to_text_exit, to_tree_exit, path_exit, clear_list_exit, blank_exit, preview_exit, blank_recording}
+use Rattle.mdf4.specs.Demand3.{Alike, Again, Tables, Pathed, Cleared, Finalizing, Unasked}
 use Rattle.mdf4.specs.Blanked.{Blanks, Previews, After, untotalled, uncounted, preview_uncounted}
 use Rattle.mdf4.proofs.Results.{never}
-use Rattle.mdf4.proofs.Finalized.{finalizing, blank_finalizing, preview_finalizing, layout_unasked, to_text_unasked, to_tree_unasked}
+use Rattle.mdf4.proofs.Finalized.{finalizing, blank_finalizing, preview_finalizing, layout_unasked, to_text_unasked, to_tree_unasked, path_unasked}
 use Rattle.mdf4.proofs.Demand3 as law
 use Rattle.mdf4.proofs.Blanked as blanked
 use Rattle.blocks.specs.Errors.{numbers}
@@ -50,6 +50,11 @@ module _ (n : Lent) (r : List ℕ) (a : Answer) (v b l g s o : List ℕ) (c : Co
         → left a' v' b' l' g' s' o' ≡ left a v b l g s o
     to_tree_again = again to_tree_exit law.to_tree_again
 
+    -- of the path to the same offset
+    pub path_again : (at : ℕ) → left a v b l g s o ≡ path_exit at n r → left a' v' b' l' g' s' o' ≡ path_exit at n r'
+        → left a' v' b' l' g' s' o' ≡ left a v b l g s o
+    path_again at = again (path_exit at) (law.path_again at)
+
     pub clear_list_again : left a v b l g s o ≡ clear_list_exit n r → left a' v' b' l' g' s' o' ≡ clear_list_exit n r'
         → left a' v' b' l' g' s' o' ≡ left a v b l g s o
     clear_list_again = again clear_list_exit law.clear_list_again
@@ -68,7 +73,9 @@ module _ (n : Lent) (r : List ℕ) (a : Answer) (v b l g s o : List ℕ) (c : Co
         ap uncounted q ∙ (law.preview_again).same n r r' _ (ap untotalled e) alike ∙ ap uncounted (sym p)
 
   -- The tables (`Tables`). Listed offsets strictly ascend; each byte lies in exactly one gap if no extent holds it, else in none; each gap
-  -- is one as document 01 has it; the gaps' sizes add up to the number of bytes that no extent holds.
+  -- is one as document 01 has it; the gaps' sizes add up to the number of bytes that no extent holds. Document 02, order 3 (`Followed`): the
+  -- ID and the header were listed by no link; from every other row, its last two words lead to a listed block whose link at that position
+  -- has the row's offset as its target, and on to the header, in fewer steps than there are rows.
   tables : (entry : Lent → List ℕ → Exit) → ((entry n r).answer ≡ ok c → Tables r (entry n r) c) → left a v b l g s o ≡ entry n r
       → Tables r (left a v b l g s o) c
   tables entry h p =
@@ -84,6 +91,9 @@ module _ (n : Lent) (r : List ℕ) (a : Answer) (v b l g s o : List ℕ) (c : Co
   pub to_tree_tables : left a v b l g s o ≡ to_tree_exit n r → Tables r (left a v b l g s o) c
   to_tree_tables = tables to_tree_exit (law.to_tree_tables n r c)
 
+  pub path_tables : (at : ℕ) → left a v b l g s o ≡ path_exit at n r → Tables r (left a v b l g s o) c
+  path_tables at = tables (path_exit at) (law.path_tables n r c at)
+
   pub clear_list_tables : left a v b l g s o ≡ clear_list_exit n r → Tables r (left a v b l g s o) c
   clear_list_tables = tables clear_list_exit (law.clear_list_tables n r c)
 
@@ -92,6 +102,13 @@ module _ (n : Lent) (r : List ℕ) (a : Answer) (v b l g s o : List ℕ) (c : Co
 
   pub preview_tables : left a v b l g s o ≡ preview_exit n r → Tables r (left a v b l g s o) c
   preview_tables = tables preview_exit (law.preview_tables n r c)
+
+  -- The path (`Pathed`). Where a row but the ID's has the offset, the output starts at the header and ends at that offset, and each next
+  -- word is the offset of a row that names the word before it; else it is empty.
+  pub path_pathed : (at : ℕ) → left a v b l g s o ≡ path_exit at n r → Pathed at (left a v b l g s o) c
+  path_pathed at p =
+      let e : (path_exit at n r).answer ≡ ok c = ap (λ (x : Exit). x.answer) (sym p) ∙ answer_is a v b l g s o ∙ accepted in
+      rw p (law.pathed at n r c e)
 
   -- The clear list (`Cleared`). Its output is the CLR bytes of ranges; a byte is in one of them exactly when it lies in a gap and is
   -- neither read nor kept; and no list of ranges that holds the same bytes is shorter. Document 02, order 1, of every row of the link
@@ -126,6 +143,9 @@ module _ (n : Lent) (r : List ℕ) (a : Answer) (v b l g s o : List ℕ) where
 
   pub to_tree_never_16 : left a v b l g s o ≡ to_tree_exit n r → (z : Refusal) → answered a ≡ err z → z.number ≡ 16 → ⊥
   to_tree_never_16 = never_16 to_tree_exit to_tree_unasked
+
+  pub path_never_16 : (at : ℕ) → left a v b l g s o ≡ path_exit at n r → (z : Refusal) → answered a ≡ err z → z.number ≡ 16 → ⊥
+  path_never_16 at = never_16 (path_exit at) (path_unasked at)
 
 -- what a call's answer says of the exit
 told : (a : Answer) (v b l g s o : List ℕ) {x : Exit} → left a v b l g s o ≡ x → x.answer ≡ answered a
@@ -190,6 +210,10 @@ module _ (n : Lent) (r r' : List ℕ) (a : Answer) (v b l g s : List ℕ)
         pub to_tree_after : left a1 v1 b1 l1 g1 s1 o1 ≡ to_tree_exit n' r → left a2 v2 b2 l2 g2 s2 o2 ≡ to_tree_exit n' r'
             → left a2 v2 b2 l2 g2 s2 o2 ≡ left a1 v1 b1 l1 g1 s1 o1
         to_tree_after p q = q ∙ after to_tree_exit blanked.to_tree_after ∙ sym p
+
+        pub path_after : (at : ℕ) → left a1 v1 b1 l1 g1 s1 o1 ≡ path_exit at n' r → left a2 v2 b2 l2 g2 s2 o2 ≡ path_exit at n' r'
+            → left a2 v2 b2 l2 g2 s2 o2 ≡ left a1 v1 b1 l1 g1 s1 o1
+        path_after at p q = q ∙ after (path_exit at) (blanked.path_after at) ∙ sym p
 
         pub clear_list_after : left a1 v1 b1 l1 g1 s1 o1 ≡ clear_list_exit n' r → left a2 v2 b2 l2 g2 s2 o2 ≡ clear_list_exit n' r'
             → left a2 v2 b2 l2 g2 s2 o2 ≡ left a1 v1 b1 l1 g1 s1 o1

@@ -1,5 +1,5 @@
 // The entries of the block layout: each takes the recording and the lent tables, walks by itself, and answers the rows and bytes in
-// use or a refusal. Those that go over the clear ranges stand in crates of their own and are passed on.
+// use or a refusal. The path, and those that go over the clear ranges, stand in crates of their own and are passed on.
 #![tactic(auto)]
 
 ghost use Rattle.std.specs.Prelude.{◌≡◌, [], length};
@@ -14,6 +14,7 @@ use blocks::error::MdfError;
 use file_layout::LentTables;
 pub use file_layout::Rows;
 pub use list_entry::clear_list;
+pub use path_entry::path;
 pub use preview_entry::preview;
 use tables::first_rows;
 use to_text::put_text;

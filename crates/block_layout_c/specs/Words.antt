@@ -3,8 +3,8 @@ use Rattle.std.specs.Prelude.{List, [], ◌∷◌, ◌++◌, ℕ, min, length, t
 use Rattle.mdf4.specs.Act.{Out, ok, err}
 use Rattle.mdf4.specs.Answers.{Counts}
 
--- number (0 where it is accepted), place, a and b; then rows of the visited, block, link and gap tables, bytes of the output or number
--- of the preview's counts, and the counts' total
+-- number (0 where it is accepted), place, a and b; then rows of the visited, block, link and gap tables, bytes of the output, words of
+-- the path or number of the preview's counts, and the counts' total
 unfoldable pub answer_words : Out Counts → List ℕ
 answer_words (ok c) = 0 ∷ 0 ∷ 0 ∷ 0 ∷ c.visited ∷ c.blocks ∷ c.links ∷ c.gaps ∷ c.bytes ∷ c.total ∷ []
 answer_words (err e) = e.number ∷ e.place ∷ e.a ∷ e.b ∷ 0 ∷ 0 ∷ 0 ∷ 0 ∷ 0 ∷ 0 ∷ []

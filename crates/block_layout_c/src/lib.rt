@@ -3,7 +3,7 @@
 #![tactic(auto)]
 
 ghost use Rattle.std.specs.Prelude.{◌≡◌, [], length};
-ghost use Rattle.mdf4.specs.Answers.{layout_exit, to_text_exit, to_tree_exit, clear_list_exit, blank_exit, blank_recording, preview_exit};
+ghost use Rattle.mdf4.specs.Answers.{layout_exit, to_text_exit, to_tree_exit, path_exit, clear_list_exit, blank_exit, blank_recording, preview_exit};
 ghost use Rattle.file_layout.specs.Tables.{lent};
 ghost use Rattle.answers.specs.Entries.{answered, exit_with};
 ghost use Rattle.block_layout_c.specs.Words.{answer_words, stored};
@@ -15,7 +15,8 @@ use blocks::error::MdfError;
 const ANSWER_WORDS: usize = 10;
 
 // The words of an answer: number (0 where it is accepted), place, a and b; then the rows of the visited, block, link and gap tables
-// and the bytes of the output in use, or the number of the preview's counts, and the counts' total. C is lent them as words.
+// and the bytes of the output in use, the words of a path or the number of the preview's counts, and the counts' total. C is lent them
+// as words.
 fn words_of(answer: Result<Accepted, MdfError>) -> [u64; 10]
     ensures { result ≡ answer_words (answered answer) }
 {
@@ -97,6 +98,25 @@ pub extern "C" fn block_layout_c_tree(
     ensures answer { answer.new ≡ stored (answer_words (to_tree_exit (lent visited.old blocks.old links.old gaps.old 0 (length out.old)) «data».now).answer) answer.old }
 {
     let r = block_layout::to_tree(data, visited, blocks, links, gaps, out);
+    store_answer(answer, r);
+}
+
+// The entry `path`.
+#[unsafe(no_mangle)]
+pub extern "C" fn block_layout_c_path(
+    data: &[u8],
+    visited: &mut [u64],
+    blocks: &mut [u64],
+    links: &mut [u64],
+    gaps: &mut [u64],
+    path: &mut [u64],
+    offset: u64,
+    answer: &mut [u64],
+)
+    ensures tables { exit_with (path_exit offset (lent visited.old blocks.old links.old gaps.old 0 (length path.old)) «data».now).answer visited.new blocks.new links.new gaps.new [] path.new ≡ path_exit offset (lent visited.old blocks.old links.old gaps.old 0 (length path.old)) «data».now }
+    ensures answer { answer.new ≡ stored (answer_words (path_exit offset (lent visited.old blocks.old links.old gaps.old 0 (length path.old)) «data».now).answer) answer.old }
+{
+    let r = block_layout::path(data, visited, blocks, links, gaps, path, offset);
     store_answer(answer, r);
 }
 

@@ -2,6 +2,9 @@
 pub mod ConversionPastEnd
 pub mod DataPastEndThenGroup
 pub mod OddDl000
+pub mod PathChains
+pub mod PathInsideId
+pub mod PathLists
 pub mod Rand00192
 pub mod Rand00222
 pub mod Rand00295

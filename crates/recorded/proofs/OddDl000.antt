@@ -1,11 +1,11 @@
--- odd_dl_0_0_0.mf4, as the Rust answers it.
+-- odd_dl_0_0_0.mf4, as the Rust answers it; links behind rows, path and clear list as the scripts draw them.
 use mathlib.Core.Path.{◌≡◌, refl}
 use mathlib.Core.List.{List, [], ◌∷◌, ◌++◌}
 use Prim.Native.Nat.{ℕ}
 use lib.ListN.{replicate}
 use Rattle.fmt.specs.Text.{ascii}
 use Rattle.mdf4.specs.Act.{err, refusal}
-use Rattle.mdf4.specs.Answers.{layout_exit, to_text_exit, to_tree_exit, clear_list_exit}
+use Rattle.mdf4.specs.Answers.{layout_exit, to_text_exit, to_tree_exit, path_exit, clear_list_exit}
 use Rattle.mdf4.proofs.Computed.{computed}
 use Rattle.mdf4.proofs.Recordings.{lent}
 
@@ -16,22 +16,27 @@ recording =
     ++ replicate 7 0 ++ (4 ∷ []) ++ replicate 23 0 ++ (232 ∷ []) ++ replicate 23 0 ++ ascii "##DL" ++ replicate 4 0 ++ (48 ∷ [])
     ++ replicate 39 0
 
-layout : layout_exit (lent 999 9999 999 999 999 9) recording
-    ≡ record { answer = err (refusal 6 232 0 48); visited = replicate 999 0; blocks = replicate 9999 0; links = replicate 999 0; gaps = replicate 999 0; scratch = replicate 999 0; out = replicate 9 0 }
+layout : layout_exit (lent 999 11665 999 999 999 9) recording
+    ≡ record { answer = err (refusal 6 232 0 48); visited = replicate 999 0; blocks = replicate 11665 0; links = replicate 999 0; gaps = replicate 999 0; scratch = replicate 999 0; out = replicate 9 0 }
 unfolding computed recording
 layout = refl
 
-text : to_text_exit (lent 999 9999 999 999 999 9) recording
-    ≡ record { answer = err (refusal 6 232 0 48); visited = replicate 999 0; blocks = replicate 9999 0; links = replicate 999 0; gaps = replicate 999 0; scratch = replicate 999 0; out = replicate 9 0 }
+text : to_text_exit (lent 999 11665 999 999 999 9) recording
+    ≡ record { answer = err (refusal 6 232 0 48); visited = replicate 999 0; blocks = replicate 11665 0; links = replicate 999 0; gaps = replicate 999 0; scratch = replicate 999 0; out = replicate 9 0 }
 unfolding computed recording
 text = refl
 
-tree : to_tree_exit (lent 999 9999 999 999 999 9) recording
-    ≡ record { answer = err (refusal 6 232 0 48); visited = replicate 999 0; blocks = replicate 9999 0; links = replicate 999 0; gaps = replicate 999 0; scratch = replicate 999 0; out = replicate 9 0 }
+tree : to_tree_exit (lent 999 11665 999 999 999 9) recording
+    ≡ record { answer = err (refusal 6 232 0 48); visited = replicate 999 0; blocks = replicate 11665 0; links = replicate 999 0; gaps = replicate 999 0; scratch = replicate 999 0; out = replicate 9 0 }
 unfolding computed recording
 tree = refl
 
-clear : clear_list_exit (lent 999 9999 999 999 999 9) recording
-    ≡ record { answer = err (refusal 6 232 0 48); visited = replicate 999 0; blocks = replicate 9999 0; links = replicate 999 0; gaps = replicate 999 0; scratch = replicate 999 0; out = replicate 9 0 }
+path : path_exit 64 (lent 999 11665 999 999 999 9) recording
+    ≡ record { answer = err (refusal 6 232 0 48); visited = replicate 999 0; blocks = replicate 11665 0; links = replicate 999 0; gaps = replicate 999 0; scratch = replicate 999 0; out = replicate 9 0 }
+unfolding computed recording
+path = refl
+
+clear : clear_list_exit (lent 999 11665 999 999 999 9) recording
+    ≡ record { answer = err (refusal 6 232 0 48); visited = replicate 999 0; blocks = replicate 11665 0; links = replicate 999 0; gaps = replicate 999 0; scratch = replicate 999 0; out = replicate 9 0 }
 unfolding computed recording
 clear = refl

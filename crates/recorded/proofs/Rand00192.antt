@@ -1,11 +1,11 @@
--- rand_00192.mf4, as the Rust answers it.
+-- rand_00192.mf4, as the Rust answers it; links behind rows, path and clear list as the scripts draw them.
 use mathlib.Core.Path.{◌≡◌, refl}
 use mathlib.Core.List.{List, [], ◌∷◌, ◌++◌}
 use Prim.Native.Nat.{ℕ}
 use lib.ListN.{replicate}
 use Rattle.fmt.specs.Text.{ascii}
-use Rattle.mdf4.specs.Act.{ok}
-use Rattle.mdf4.specs.Answers.{layout_exit, to_text_exit, to_tree_exit, clear_list_exit}
+use Rattle.mdf4.specs.Act.{ok, err, refusal}
+use Rattle.mdf4.specs.Answers.{layout_exit, to_text_exit, to_tree_exit, path_exit, clear_list_exit}
 use Rattle.mdf4.proofs.Computed.{computed}
 use Rattle.mdf4.proofs.Recordings.{lent, counts}
 
@@ -46,14 +46,15 @@ gaps =
 
 blocks : List ℕ
 blocks =
-    0 ∷ 64 ∷ 64 ∷ 1145643811 ∷ 1 ∷ 0 ∷ 0 ∷ 0 ∷ 0 ∷ 0 ∷ 0 ∷ 0 ∷ 64 ∷ 168 ∷ 104 ∷ 1145578275 ∷ 2 ∷ 0 ∷ 0 ∷ 6 ∷ 0 ∷ 0 ∷ 0 ∷ 0 ∷ 181 ∷ 265 ∷ 84
-    ∷ 1146299171 ∷ 10 ∷ 0 ∷ 0 ∷ 0 ∷ 0 ∷ 0 ∷ 0 ∷ 0 ∷ 272 ∷ 336 ∷ 64 ∷ 1195647779 ∷ 3 ∷ 0 ∷ 6 ∷ 4 ∷ 0 ∷ 0 ∷ 0 ∷ 0 ∷ 337 ∷ 362 ∷ 25
-    ∷ 1448223523 ∷ 9 ∷ 0 ∷ 0 ∷ 0 ∷ 0 ∷ 0 ∷ 0 ∷ 0 ∷ 381 ∷ 467 ∷ 86 ∷ 1145905955 ∷ 8 ∷ 0 ∷ 0 ∷ 0 ∷ 0 ∷ 0 ∷ 0 ∷ 0 ∷ 502 ∷ 566 ∷ 64 ∷ 1195647779
-    ∷ 3 ∷ 2 ∷ 18 ∷ 4 ∷ 0 ∷ 0 ∷ 0 ∷ 0 ∷ 537 ∷ 537 ∷ 0 ∷ 0 ∷ 13 ∷ 0 ∷ 0 ∷ 0 ∷ 0 ∷ 0 ∷ 0 ∷ 0 ∷ 568 ∷ 632 ∷ 64 ∷ 1195647779 ∷ 3 ∷ 1 ∷ 14 ∷ 4 ∷ 0
-    ∷ 0 ∷ 0 ∷ 0 ∷ 672 ∷ 707 ∷ 35 ∷ 1279796003 ∷ 13 ∷ 0 ∷ 0 ∷ 0 ∷ 0 ∷ 0 ∷ 0 ∷ 0 ∷ 725 ∷ 813 ∷ 88 ∷ 1279533859 ∷ 11 ∷ 0 ∷ 10 ∷ 4 ∷ 0 ∷ 0 ∷ 0
-    ∷ 0 ∷ 816 ∷ 864 ∷ 48 ∷ 1279533859 ∷ 11 ∷ 0 ∷ 22 ∷ 1 ∷ 0 ∷ 0 ∷ 0 ∷ 0 ∷ []
+    0 ∷ 64 ∷ 64 ∷ 1145643811 ∷ 1 ∷ 0 ∷ 0 ∷ 0 ∷ 0 ∷ 0 ∷ 0 ∷ 0 ∷ 0 ∷ 0 ∷ 64 ∷ 168 ∷ 104 ∷ 1145578275 ∷ 2 ∷ 0 ∷ 0 ∷ 6 ∷ 0 ∷ 0 ∷ 0 ∷ 0 ∷ 0 ∷ 0
+    ∷ 181 ∷ 265 ∷ 84 ∷ 1146299171 ∷ 10 ∷ 0 ∷ 0 ∷ 0 ∷ 0 ∷ 0 ∷ 0 ∷ 0 ∷ 725 ∷ 2 ∷ 272 ∷ 336 ∷ 64 ∷ 1195647779 ∷ 3 ∷ 0 ∷ 6 ∷ 4 ∷ 0 ∷ 0 ∷ 0 ∷ 0
+    ∷ 64 ∷ 0 ∷ 337 ∷ 362 ∷ 25 ∷ 1448223523 ∷ 9 ∷ 0 ∷ 0 ∷ 0 ∷ 0 ∷ 0 ∷ 0 ∷ 0 ∷ 816 ∷ 0 ∷ 381 ∷ 467 ∷ 86 ∷ 1145905955 ∷ 8 ∷ 0 ∷ 0 ∷ 0 ∷ 0 ∷ 0
+    ∷ 0 ∷ 0 ∷ 568 ∷ 3 ∷ 502 ∷ 566 ∷ 64 ∷ 1195647779 ∷ 3 ∷ 2 ∷ 18 ∷ 4 ∷ 0 ∷ 0 ∷ 0 ∷ 0 ∷ 568 ∷ 0 ∷ 537 ∷ 537 ∷ 0 ∷ 0 ∷ 13 ∷ 0 ∷ 0 ∷ 0 ∷ 0 ∷ 0
+    ∷ 0 ∷ 0 ∷ 725 ∷ 1 ∷ 568 ∷ 632 ∷ 64 ∷ 1195647779 ∷ 3 ∷ 1 ∷ 14 ∷ 4 ∷ 0 ∷ 0 ∷ 0 ∷ 0 ∷ 272 ∷ 0 ∷ 672 ∷ 707 ∷ 35 ∷ 1279796003 ∷ 13 ∷ 0 ∷ 0
+    ∷ 0 ∷ 0 ∷ 0 ∷ 0 ∷ 0 ∷ 725 ∷ 3 ∷ 725 ∷ 813 ∷ 88 ∷ 1279533859 ∷ 11 ∷ 0 ∷ 10 ∷ 4 ∷ 0 ∷ 0 ∷ 0 ∷ 0 ∷ 272 ∷ 2 ∷ 816 ∷ 864 ∷ 48 ∷ 1279533859
+    ∷ 11 ∷ 0 ∷ 22 ∷ 1 ∷ 0 ∷ 0 ∷ 0 ∷ 0 ∷ 502 ∷ 2 ∷ []
 
-layout : layout_exit (lent 12 144 46 18 0 0) recording
+layout : layout_exit (lent 12 168 46 18 0 0) recording
     ≡ record {
       answer = ok (counts 12 12 23 9 0);
       visited = visited;
@@ -67,7 +68,7 @@ layout : layout_exit (lent 12 144 46 18 0 0) recording
 unfolding computed recording visited links gaps blocks
 layout = refl
 
-text : to_text_exit (lent 12 144 46 18 0 3659) recording
+text : to_text_exit (lent 12 168 46 18 0 3659) recording
     ≡ record {
       answer = ok (counts 12 12 23 9 3659);
       visited = visited;
@@ -130,7 +131,7 @@ text : to_text_exit (lent 12 144 46 18 0 3659) recording
 unfolding computed recording visited links gaps blocks
 text = refl
 
-clear : clear_list_exit (lent 12 144 46 18 66 168) recording
+clear : clear_list_exit (lent 12 168 46 18 66 168) recording
     ≡ record {
       answer = ok (counts 12 12 23 9 168);
       visited = visited;
@@ -149,16 +150,36 @@ clear : clear_list_exit (lent 12 144 46 18 66 168) recording
 unfolding computed recording visited links gaps blocks
 clear = refl
 
+path : path_exit 337 (lent 12 168 46 18 0 6) recording
+    ≡ record {
+      answer = ok (counts 12 12 23 9 6);
+      visited = visited;
+      blocks = blocks;
+      links = links;
+      gaps = gaps;
+      scratch = replicate 0 0;
+      out =
+          64 ∷ 272 ∷ 568 ∷ 502 ∷ 816 ∷ 337 ∷ [];
+    }
+unfolding computed recording visited links gaps blocks
+path = refl
+
+path_short : path_exit 337 (lent 12 168 46 18 0 5) recording
+    ≡ record { answer = err (refusal 13 0 5 6); visited = replicate 12 0; blocks = replicate 168 0; links = replicate 46 0; gaps = replicate 18 0; scratch = replicate 0 0; out = replicate 5 0 }
+unfolding computed recording
+path_short = refl
+
 marked_blocks : List ℕ
 marked_blocks =
-    0 ∷ 64 ∷ 64 ∷ 1145643811 ∷ 1 ∷ 0 ∷ 0 ∷ 0 ∷ 0 ∷ 0 ∷ 0 ∷ 1 ∷ 64 ∷ 168 ∷ 104 ∷ 1145578275 ∷ 2 ∷ 0 ∷ 0 ∷ 6 ∷ 0 ∷ 0 ∷ 0 ∷ 1 ∷ 181 ∷ 265 ∷ 84
-    ∷ 1146299171 ∷ 10 ∷ 0 ∷ 0 ∷ 0 ∷ 0 ∷ 0 ∷ 0 ∷ 1 ∷ 272 ∷ 336 ∷ 64 ∷ 1195647779 ∷ 3 ∷ 0 ∷ 6 ∷ 4 ∷ 0 ∷ 0 ∷ 0 ∷ 1 ∷ 337 ∷ 362 ∷ 25
-    ∷ 1448223523 ∷ 9 ∷ 0 ∷ 0 ∷ 0 ∷ 0 ∷ 0 ∷ 0 ∷ 1 ∷ 381 ∷ 467 ∷ 86 ∷ 1145905955 ∷ 8 ∷ 0 ∷ 0 ∷ 0 ∷ 0 ∷ 0 ∷ 0 ∷ 1 ∷ 502 ∷ 566 ∷ 64 ∷ 1195647779
-    ∷ 3 ∷ 2 ∷ 18 ∷ 4 ∷ 0 ∷ 0 ∷ 0 ∷ 1 ∷ 537 ∷ 537 ∷ 0 ∷ 0 ∷ 13 ∷ 0 ∷ 0 ∷ 0 ∷ 0 ∷ 0 ∷ 0 ∷ 1 ∷ 568 ∷ 632 ∷ 64 ∷ 1195647779 ∷ 3 ∷ 1 ∷ 14 ∷ 4 ∷ 0
-    ∷ 0 ∷ 0 ∷ 1 ∷ 672 ∷ 707 ∷ 35 ∷ 1279796003 ∷ 13 ∷ 0 ∷ 0 ∷ 0 ∷ 0 ∷ 0 ∷ 0 ∷ 1 ∷ 725 ∷ 813 ∷ 88 ∷ 1279533859 ∷ 11 ∷ 0 ∷ 10 ∷ 4 ∷ 0 ∷ 0 ∷ 0
-    ∷ 1 ∷ 816 ∷ 864 ∷ 48 ∷ 1279533859 ∷ 11 ∷ 0 ∷ 22 ∷ 1 ∷ 0 ∷ 0 ∷ 0 ∷ 1 ∷ []
+    0 ∷ 64 ∷ 64 ∷ 1145643811 ∷ 1 ∷ 0 ∷ 0 ∷ 0 ∷ 0 ∷ 0 ∷ 0 ∷ 1 ∷ 0 ∷ 0 ∷ 64 ∷ 168 ∷ 104 ∷ 1145578275 ∷ 2 ∷ 0 ∷ 0 ∷ 6 ∷ 0 ∷ 0 ∷ 0 ∷ 1 ∷ 0 ∷ 0
+    ∷ 181 ∷ 265 ∷ 84 ∷ 1146299171 ∷ 10 ∷ 0 ∷ 0 ∷ 0 ∷ 0 ∷ 0 ∷ 0 ∷ 1 ∷ 725 ∷ 2 ∷ 272 ∷ 336 ∷ 64 ∷ 1195647779 ∷ 3 ∷ 0 ∷ 6 ∷ 4 ∷ 0 ∷ 0 ∷ 0 ∷ 1
+    ∷ 64 ∷ 0 ∷ 337 ∷ 362 ∷ 25 ∷ 1448223523 ∷ 9 ∷ 0 ∷ 0 ∷ 0 ∷ 0 ∷ 0 ∷ 0 ∷ 1 ∷ 816 ∷ 0 ∷ 381 ∷ 467 ∷ 86 ∷ 1145905955 ∷ 8 ∷ 0 ∷ 0 ∷ 0 ∷ 0 ∷ 0
+    ∷ 0 ∷ 1 ∷ 568 ∷ 3 ∷ 502 ∷ 566 ∷ 64 ∷ 1195647779 ∷ 3 ∷ 2 ∷ 18 ∷ 4 ∷ 0 ∷ 0 ∷ 0 ∷ 1 ∷ 568 ∷ 0 ∷ 537 ∷ 537 ∷ 0 ∷ 0 ∷ 13 ∷ 0 ∷ 0 ∷ 0 ∷ 0 ∷ 0
+    ∷ 0 ∷ 1 ∷ 725 ∷ 1 ∷ 568 ∷ 632 ∷ 64 ∷ 1195647779 ∷ 3 ∷ 1 ∷ 14 ∷ 4 ∷ 0 ∷ 0 ∷ 0 ∷ 1 ∷ 272 ∷ 0 ∷ 672 ∷ 707 ∷ 35 ∷ 1279796003 ∷ 13 ∷ 0 ∷ 0
+    ∷ 0 ∷ 0 ∷ 0 ∷ 0 ∷ 1 ∷ 725 ∷ 3 ∷ 725 ∷ 813 ∷ 88 ∷ 1279533859 ∷ 11 ∷ 0 ∷ 10 ∷ 4 ∷ 0 ∷ 0 ∷ 0 ∷ 1 ∷ 272 ∷ 2 ∷ 816 ∷ 864 ∷ 48 ∷ 1279533859
+    ∷ 11 ∷ 0 ∷ 22 ∷ 1 ∷ 0 ∷ 0 ∷ 0 ∷ 1 ∷ 502 ∷ 2 ∷ []
 
-tree : to_tree_exit (lent 12 144 46 18 0 1040) recording
+tree : to_tree_exit (lent 12 168 46 18 0 1040) recording
     ≡ record {
       answer = ok (counts 12 12 23 9 1040);
       visited = visited;

@@ -1,11 +1,11 @@
--- rand_00222.mf4, as the Rust answers it.
+-- rand_00222.mf4, as the Rust answers it; links behind rows, path and clear list as the scripts draw them.
 use mathlib.Core.Path.{◌≡◌, refl}
 use mathlib.Core.List.{List, [], ◌∷◌, ◌++◌}
 use Prim.Native.Nat.{ℕ}
 use lib.ListN.{replicate}
 use Rattle.fmt.specs.Text.{ascii}
-use Rattle.mdf4.specs.Act.{ok}
-use Rattle.mdf4.specs.Answers.{layout_exit, to_text_exit, to_tree_exit, clear_list_exit}
+use Rattle.mdf4.specs.Act.{ok, err, refusal}
+use Rattle.mdf4.specs.Answers.{layout_exit, to_text_exit, to_tree_exit, path_exit, clear_list_exit}
 use Rattle.mdf4.proofs.Computed.{computed}
 use Rattle.mdf4.proofs.Recordings.{lent, counts}
 
@@ -57,14 +57,15 @@ gaps =
 
 blocks : List ℕ
 blocks =
-    0 ∷ 64 ∷ 64 ∷ 1145643811 ∷ 1 ∷ 0 ∷ 0 ∷ 0 ∷ 0 ∷ 0 ∷ 0 ∷ 0 ∷ 8 ∷ 723144539136648041 ∷ 723144539136648033 ∷ 825306676 ∷ 12 ∷ 0 ∷ 0 ∷ 0 ∷ 0
-    ∷ 0 ∷ 0 ∷ 0 ∷ 64 ∷ 168 ∷ 104 ∷ 1145578275 ∷ 2 ∷ 0 ∷ 0 ∷ 6 ∷ 0 ∷ 0 ∷ 0 ∷ 0 ∷ 168 ∷ 193 ∷ 25 ∷ 1481909027 ∷ 7 ∷ 0 ∷ 0 ∷ 0 ∷ 0 ∷ 0 ∷ 0 ∷ 0
-    ∷ 200 ∷ 360 ∷ 160 ∷ 1313022755 ∷ 5 ∷ 0 ∷ 16 ∷ 8 ∷ 0 ∷ 0 ∷ 0 ∷ 0 ∷ 360 ∷ 520 ∷ 160 ∷ 1313022755 ∷ 5 ∷ 1 ∷ 24 ∷ 8 ∷ 0 ∷ 0 ∷ 0 ∷ 0 ∷ 560
-    ∷ 570 ∷ 10 ∷ 8577791 ∷ 12 ∷ 0 ∷ 0 ∷ 0 ∷ 0 ∷ 0 ∷ 0 ∷ 0 ∷ 584 ∷ 611 ∷ 27 ∷ 1230185251 ∷ 6 ∷ 0 ∷ 40 ∷ 3 ∷ 0 ∷ 0 ∷ 0 ∷ 0 ∷ 656 ∷ 816 ∷ 160
-    ∷ 1313022755 ∷ 5 ∷ 2 ∷ 32 ∷ 8 ∷ 0 ∷ 0 ∷ 0 ∷ 0 ∷ 816 ∷ 920 ∷ 104 ∷ 1195582243 ∷ 4 ∷ 0 ∷ 10 ∷ 6 ∷ 1 ∷ 0 ∷ 0 ∷ 0 ∷ 920 ∷ 949 ∷ 29
-    ∷ 1413751587 ∷ 9 ∷ 0 ∷ 0 ∷ 0 ∷ 1 ∷ 0 ∷ 0 ∷ 0 ∷ 965 ∷ 1029 ∷ 64 ∷ 1195647779 ∷ 3 ∷ 0 ∷ 6 ∷ 4 ∷ 0 ∷ 0 ∷ 0 ∷ 0 ∷ []
+    0 ∷ 64 ∷ 64 ∷ 1145643811 ∷ 1 ∷ 0 ∷ 0 ∷ 0 ∷ 0 ∷ 0 ∷ 0 ∷ 0 ∷ 0 ∷ 0 ∷ 8 ∷ 723144539136648041 ∷ 723144539136648033 ∷ 825306676 ∷ 12 ∷ 0 ∷ 0
+    ∷ 0 ∷ 0 ∷ 0 ∷ 0 ∷ 0 ∷ 816 ∷ 5 ∷ 64 ∷ 168 ∷ 104 ∷ 1145578275 ∷ 2 ∷ 0 ∷ 0 ∷ 6 ∷ 0 ∷ 0 ∷ 0 ∷ 0 ∷ 0 ∷ 0 ∷ 168 ∷ 193 ∷ 25 ∷ 1481909027 ∷ 7
+    ∷ 0 ∷ 0 ∷ 0 ∷ 0 ∷ 0 ∷ 0 ∷ 0 ∷ 200 ∷ 2 ∷ 200 ∷ 360 ∷ 160 ∷ 1313022755 ∷ 5 ∷ 0 ∷ 16 ∷ 8 ∷ 0 ∷ 0 ∷ 0 ∷ 0 ∷ 816 ∷ 1 ∷ 360 ∷ 520 ∷ 160
+    ∷ 1313022755 ∷ 5 ∷ 1 ∷ 24 ∷ 8 ∷ 0 ∷ 0 ∷ 0 ∷ 0 ∷ 200 ∷ 0 ∷ 560 ∷ 570 ∷ 10 ∷ 8577791 ∷ 12 ∷ 0 ∷ 0 ∷ 0 ∷ 0 ∷ 0 ∷ 0 ∷ 0 ∷ 656 ∷ 2 ∷ 584
+    ∷ 611 ∷ 27 ∷ 1230185251 ∷ 6 ∷ 0 ∷ 40 ∷ 3 ∷ 0 ∷ 0 ∷ 0 ∷ 0 ∷ 656 ∷ 3 ∷ 656 ∷ 816 ∷ 160 ∷ 1313022755 ∷ 5 ∷ 2 ∷ 32 ∷ 8 ∷ 0 ∷ 0 ∷ 0 ∷ 0 ∷ 360
+    ∷ 0 ∷ 816 ∷ 920 ∷ 104 ∷ 1195582243 ∷ 4 ∷ 0 ∷ 10 ∷ 6 ∷ 1 ∷ 0 ∷ 0 ∷ 0 ∷ 965 ∷ 1 ∷ 920 ∷ 949 ∷ 29 ∷ 1413751587 ∷ 9 ∷ 0 ∷ 0 ∷ 0 ∷ 1 ∷ 0 ∷ 0
+    ∷ 0 ∷ 965 ∷ 2 ∷ 965 ∷ 1029 ∷ 64 ∷ 1195647779 ∷ 3 ∷ 0 ∷ 6 ∷ 4 ∷ 0 ∷ 0 ∷ 0 ∷ 0 ∷ 64 ∷ 0 ∷ []
 
-layout : layout_exit (lent 12 144 86 0 0 0) recording
+layout : layout_exit (lent 12 168 86 0 0 0) recording
     ≡ record {
       answer = ok (counts 12 12 43 0 0);
       visited = visited;
@@ -78,7 +79,7 @@ layout : layout_exit (lent 12 144 86 0 0 0) recording
 unfolding computed recording visited links gaps blocks
 layout = refl
 
-text : to_text_exit (lent 12 144 86 0 0 4878) recording
+text : to_text_exit (lent 12 168 86 0 0 4878) recording
     ≡ record {
       answer = ok (counts 12 12 43 0 4878);
       visited = visited;
@@ -144,7 +145,7 @@ text : to_text_exit (lent 12 144 86 0 0 4878) recording
 unfolding computed recording visited links gaps blocks
 text = refl
 
-clear : clear_list_exit (lent 12 144 86 0 74 24) recording
+clear : clear_list_exit (lent 12 168 86 0 74 24) recording
     ≡ record {
       answer = ok (counts 12 12 43 0 24);
       visited = visited;
@@ -158,16 +159,36 @@ clear : clear_list_exit (lent 12 144 86 0 74 24) recording
 unfolding computed recording visited links gaps blocks
 clear = refl
 
+path : path_exit 560 (lent 12 168 86 0 0 7) recording
+    ≡ record {
+      answer = ok (counts 12 12 43 0 7);
+      visited = visited;
+      blocks = blocks;
+      links = links;
+      gaps = gaps;
+      scratch = replicate 0 0;
+      out =
+          64 ∷ 965 ∷ 816 ∷ 200 ∷ 360 ∷ 656 ∷ 560 ∷ [];
+    }
+unfolding computed recording visited links gaps blocks
+path = refl
+
+path_short : path_exit 560 (lent 12 168 86 0 0 6) recording
+    ≡ record { answer = err (refusal 13 0 6 7); visited = replicate 12 0; blocks = replicate 168 0; links = replicate 86 0; gaps = replicate 0 0; scratch = replicate 0 0; out = replicate 6 0 }
+unfolding computed recording
+path_short = refl
+
 marked_blocks : List ℕ
 marked_blocks =
-    0 ∷ 64 ∷ 64 ∷ 1145643811 ∷ 1 ∷ 0 ∷ 0 ∷ 0 ∷ 0 ∷ 0 ∷ 0 ∷ 1 ∷ 8 ∷ 723144539136648041 ∷ 723144539136648033 ∷ 825306676 ∷ 12 ∷ 0 ∷ 0 ∷ 0 ∷ 0
-    ∷ 0 ∷ 0 ∷ 1 ∷ 64 ∷ 168 ∷ 104 ∷ 1145578275 ∷ 2 ∷ 0 ∷ 0 ∷ 6 ∷ 0 ∷ 0 ∷ 0 ∷ 1 ∷ 168 ∷ 193 ∷ 25 ∷ 1481909027 ∷ 7 ∷ 0 ∷ 0 ∷ 0 ∷ 0 ∷ 0 ∷ 0 ∷ 1
-    ∷ 200 ∷ 360 ∷ 160 ∷ 1313022755 ∷ 5 ∷ 0 ∷ 16 ∷ 8 ∷ 0 ∷ 0 ∷ 0 ∷ 1 ∷ 360 ∷ 520 ∷ 160 ∷ 1313022755 ∷ 5 ∷ 1 ∷ 24 ∷ 8 ∷ 0 ∷ 0 ∷ 0 ∷ 1 ∷ 560
-    ∷ 570 ∷ 10 ∷ 8577791 ∷ 12 ∷ 0 ∷ 0 ∷ 0 ∷ 0 ∷ 0 ∷ 0 ∷ 1 ∷ 584 ∷ 611 ∷ 27 ∷ 1230185251 ∷ 6 ∷ 0 ∷ 40 ∷ 3 ∷ 0 ∷ 0 ∷ 0 ∷ 1 ∷ 656 ∷ 816 ∷ 160
-    ∷ 1313022755 ∷ 5 ∷ 2 ∷ 32 ∷ 8 ∷ 0 ∷ 0 ∷ 0 ∷ 1 ∷ 816 ∷ 920 ∷ 104 ∷ 1195582243 ∷ 4 ∷ 0 ∷ 10 ∷ 6 ∷ 1 ∷ 0 ∷ 0 ∷ 1 ∷ 920 ∷ 949 ∷ 29
-    ∷ 1413751587 ∷ 9 ∷ 0 ∷ 0 ∷ 0 ∷ 1 ∷ 0 ∷ 0 ∷ 1 ∷ 965 ∷ 1029 ∷ 64 ∷ 1195647779 ∷ 3 ∷ 0 ∷ 6 ∷ 4 ∷ 0 ∷ 0 ∷ 0 ∷ 1 ∷ []
+    0 ∷ 64 ∷ 64 ∷ 1145643811 ∷ 1 ∷ 0 ∷ 0 ∷ 0 ∷ 0 ∷ 0 ∷ 0 ∷ 1 ∷ 0 ∷ 0 ∷ 8 ∷ 723144539136648041 ∷ 723144539136648033 ∷ 825306676 ∷ 12 ∷ 0 ∷ 0
+    ∷ 0 ∷ 0 ∷ 0 ∷ 0 ∷ 1 ∷ 816 ∷ 5 ∷ 64 ∷ 168 ∷ 104 ∷ 1145578275 ∷ 2 ∷ 0 ∷ 0 ∷ 6 ∷ 0 ∷ 0 ∷ 0 ∷ 1 ∷ 0 ∷ 0 ∷ 168 ∷ 193 ∷ 25 ∷ 1481909027 ∷ 7
+    ∷ 0 ∷ 0 ∷ 0 ∷ 0 ∷ 0 ∷ 0 ∷ 1 ∷ 200 ∷ 2 ∷ 200 ∷ 360 ∷ 160 ∷ 1313022755 ∷ 5 ∷ 0 ∷ 16 ∷ 8 ∷ 0 ∷ 0 ∷ 0 ∷ 1 ∷ 816 ∷ 1 ∷ 360 ∷ 520 ∷ 160
+    ∷ 1313022755 ∷ 5 ∷ 1 ∷ 24 ∷ 8 ∷ 0 ∷ 0 ∷ 0 ∷ 1 ∷ 200 ∷ 0 ∷ 560 ∷ 570 ∷ 10 ∷ 8577791 ∷ 12 ∷ 0 ∷ 0 ∷ 0 ∷ 0 ∷ 0 ∷ 0 ∷ 1 ∷ 656 ∷ 2 ∷ 584
+    ∷ 611 ∷ 27 ∷ 1230185251 ∷ 6 ∷ 0 ∷ 40 ∷ 3 ∷ 0 ∷ 0 ∷ 0 ∷ 1 ∷ 656 ∷ 3 ∷ 656 ∷ 816 ∷ 160 ∷ 1313022755 ∷ 5 ∷ 2 ∷ 32 ∷ 8 ∷ 0 ∷ 0 ∷ 0 ∷ 1 ∷ 360
+    ∷ 0 ∷ 816 ∷ 920 ∷ 104 ∷ 1195582243 ∷ 4 ∷ 0 ∷ 10 ∷ 6 ∷ 1 ∷ 0 ∷ 0 ∷ 1 ∷ 965 ∷ 1 ∷ 920 ∷ 949 ∷ 29 ∷ 1413751587 ∷ 9 ∷ 0 ∷ 0 ∷ 0 ∷ 1 ∷ 0 ∷ 0
+    ∷ 1 ∷ 965 ∷ 2 ∷ 965 ∷ 1029 ∷ 64 ∷ 1195647779 ∷ 3 ∷ 0 ∷ 6 ∷ 4 ∷ 0 ∷ 0 ∷ 0 ∷ 1 ∷ 64 ∷ 0 ∷ []
 
-tree : to_tree_exit (lent 12 144 86 0 0 1593) recording
+tree : to_tree_exit (lent 12 168 86 0 0 1593) recording
     ≡ record {
       answer = ok (counts 12 12 43 0 1593);
       visited = visited;

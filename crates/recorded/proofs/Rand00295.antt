@@ -1,11 +1,11 @@
--- rand_00295.mf4, as the Rust answers it.
+-- rand_00295.mf4, as the Rust answers it; links behind rows, path and clear list as the scripts draw them.
 use mathlib.Core.Path.{◌≡◌, refl}
 use mathlib.Core.List.{List, [], ◌∷◌, ◌++◌}
 use Prim.Native.Nat.{ℕ}
 use lib.ListN.{replicate}
 use Rattle.fmt.specs.Text.{ascii}
 use Rattle.mdf4.specs.Act.{ok, err, refusal}
-use Rattle.mdf4.specs.Answers.{layout_exit, to_text_exit, to_tree_exit, clear_list_exit}
+use Rattle.mdf4.specs.Answers.{layout_exit, to_text_exit, to_tree_exit, path_exit, clear_list_exit}
 use Rattle.mdf4.proofs.Computed.{computed}
 use Rattle.mdf4.proofs.Recordings.{lent, counts}
 
@@ -41,12 +41,13 @@ gaps =
 
 blocks : List ℕ
 blocks =
-    0 ∷ 64 ∷ 64 ∷ 1145643811 ∷ 1 ∷ 0 ∷ 0 ∷ 0 ∷ 0 ∷ 0 ∷ 0 ∷ 0 ∷ 8 ∷ 2305878616122130183 ∷ 2305878616122130175 ∷ 538976309 ∷ 12 ∷ 0 ∷ 0 ∷ 0
-    ∷ 0 ∷ 0 ∷ 0 ∷ 0 ∷ 64 ∷ 168 ∷ 104 ∷ 1145578275 ∷ 2 ∷ 0 ∷ 0 ∷ 6 ∷ 0 ∷ 0 ∷ 0 ∷ 0 ∷ 168 ∷ 205 ∷ 37 ∷ 1145905955 ∷ 8 ∷ 0 ∷ 0 ∷ 0 ∷ 0 ∷ 0 ∷ 0
-    ∷ 0 ∷ 209 ∷ 353 ∷ 144 ∷ 1195582243 ∷ 4 ∷ 0 ∷ 10 ∷ 7 ∷ 4294967296 ∷ 4294967295 ∷ 1 ∷ 0 ∷ 360 ∷ 484 ∷ 124 ∷ 1413751587 ∷ 9 ∷ 0 ∷ 0 ∷ 0
-    ∷ 4294967296 ∷ 4294967295 ∷ 1 ∷ 0 ∷ 480 ∷ 544 ∷ 64 ∷ 1195647779 ∷ 3 ∷ 0 ∷ 6 ∷ 4 ∷ 0 ∷ 0 ∷ 0 ∷ 0 ∷ []
+    0 ∷ 64 ∷ 64 ∷ 1145643811 ∷ 1 ∷ 0 ∷ 0 ∷ 0 ∷ 0 ∷ 0 ∷ 0 ∷ 0 ∷ 0 ∷ 0 ∷ 8 ∷ 2305878616122130183 ∷ 2305878616122130175 ∷ 538976309 ∷ 12 ∷ 0
+    ∷ 0 ∷ 0 ∷ 0 ∷ 0 ∷ 0 ∷ 0 ∷ 480 ∷ 3 ∷ 64 ∷ 168 ∷ 104 ∷ 1145578275 ∷ 2 ∷ 0 ∷ 0 ∷ 6 ∷ 0 ∷ 0 ∷ 0 ∷ 0 ∷ 0 ∷ 0 ∷ 168 ∷ 205 ∷ 37 ∷ 1145905955
+    ∷ 8 ∷ 0 ∷ 0 ∷ 0 ∷ 0 ∷ 0 ∷ 0 ∷ 0 ∷ 209 ∷ 2 ∷ 209 ∷ 353 ∷ 144 ∷ 1195582243 ∷ 4 ∷ 0 ∷ 10 ∷ 7 ∷ 4294967296 ∷ 4294967295 ∷ 1 ∷ 0 ∷ 480 ∷ 1
+    ∷ 360 ∷ 484 ∷ 124 ∷ 1413751587 ∷ 9 ∷ 0 ∷ 0 ∷ 0 ∷ 4294967296 ∷ 4294967295 ∷ 1 ∷ 0 ∷ 480 ∷ 2 ∷ 480 ∷ 544 ∷ 64 ∷ 1195647779 ∷ 3 ∷ 0 ∷ 6 ∷ 4
+    ∷ 0 ∷ 0 ∷ 0 ∷ 0 ∷ 64 ∷ 0 ∷ []
 
-layout : layout_exit (lent 7 84 34 0 0 0) recording
+layout : layout_exit (lent 7 98 34 0 0 0) recording
     ≡ record {
       answer = ok (counts 7 7 17 0 0);
       visited = visited;
@@ -60,7 +61,7 @@ layout : layout_exit (lent 7 84 34 0 0 0) recording
 unfolding computed recording visited links gaps blocks
 layout = refl
 
-text : to_text_exit (lent 7 84 34 0 0 2548) recording
+text : to_text_exit (lent 7 98 34 0 0 2548) recording
     ≡ record {
       answer = ok (counts 7 7 17 0 2548);
       visited = visited;
@@ -104,19 +105,39 @@ text : to_text_exit (lent 7 84 34 0 0 2548) recording
 unfolding computed recording visited links gaps blocks
 text = refl
 
-clear : clear_list_exit (lent 7 84 34 0 40 24) recording
-    ≡ record { answer = err (refusal 16 60 1 0); visited = replicate 7 0; blocks = replicate 84 0; links = replicate 34 0; gaps = replicate 0 0; scratch = replicate 40 0; out = replicate 24 0 }
+clear : clear_list_exit (lent 7 98 34 0 40 24) recording
+    ≡ record { answer = err (refusal 16 60 1 0); visited = replicate 7 0; blocks = replicate 98 0; links = replicate 34 0; gaps = replicate 0 0; scratch = replicate 40 0; out = replicate 24 0 }
 unfolding computed recording
 clear = refl
 
+path : path_exit 168 (lent 7 98 34 0 0 4) recording
+    ≡ record {
+      answer = ok (counts 7 7 17 0 4);
+      visited = visited;
+      blocks = blocks;
+      links = links;
+      gaps = gaps;
+      scratch = replicate 0 0;
+      out =
+          64 ∷ 480 ∷ 209 ∷ 168 ∷ [];
+    }
+unfolding computed recording visited links gaps blocks
+path = refl
+
+path_short : path_exit 168 (lent 7 98 34 0 0 3) recording
+    ≡ record { answer = err (refusal 13 0 3 4); visited = replicate 7 0; blocks = replicate 98 0; links = replicate 34 0; gaps = replicate 0 0; scratch = replicate 0 0; out = replicate 3 0 }
+unfolding computed recording
+path_short = refl
+
 marked_blocks : List ℕ
 marked_blocks =
-    0 ∷ 64 ∷ 64 ∷ 1145643811 ∷ 1 ∷ 0 ∷ 0 ∷ 0 ∷ 0 ∷ 0 ∷ 0 ∷ 1 ∷ 8 ∷ 2305878616122130183 ∷ 2305878616122130175 ∷ 538976309 ∷ 12 ∷ 0 ∷ 0 ∷ 0
-    ∷ 0 ∷ 0 ∷ 0 ∷ 1 ∷ 64 ∷ 168 ∷ 104 ∷ 1145578275 ∷ 2 ∷ 0 ∷ 0 ∷ 6 ∷ 0 ∷ 0 ∷ 0 ∷ 1 ∷ 168 ∷ 205 ∷ 37 ∷ 1145905955 ∷ 8 ∷ 0 ∷ 0 ∷ 0 ∷ 0 ∷ 0 ∷ 0
-    ∷ 1 ∷ 209 ∷ 353 ∷ 144 ∷ 1195582243 ∷ 4 ∷ 0 ∷ 10 ∷ 7 ∷ 4294967296 ∷ 4294967295 ∷ 1 ∷ 1 ∷ 360 ∷ 484 ∷ 124 ∷ 1413751587 ∷ 9 ∷ 0 ∷ 0 ∷ 0
-    ∷ 4294967296 ∷ 4294967295 ∷ 1 ∷ 1 ∷ 480 ∷ 544 ∷ 64 ∷ 1195647779 ∷ 3 ∷ 0 ∷ 6 ∷ 4 ∷ 0 ∷ 0 ∷ 0 ∷ 1 ∷ []
+    0 ∷ 64 ∷ 64 ∷ 1145643811 ∷ 1 ∷ 0 ∷ 0 ∷ 0 ∷ 0 ∷ 0 ∷ 0 ∷ 1 ∷ 0 ∷ 0 ∷ 8 ∷ 2305878616122130183 ∷ 2305878616122130175 ∷ 538976309 ∷ 12 ∷ 0
+    ∷ 0 ∷ 0 ∷ 0 ∷ 0 ∷ 0 ∷ 1 ∷ 480 ∷ 3 ∷ 64 ∷ 168 ∷ 104 ∷ 1145578275 ∷ 2 ∷ 0 ∷ 0 ∷ 6 ∷ 0 ∷ 0 ∷ 0 ∷ 1 ∷ 0 ∷ 0 ∷ 168 ∷ 205 ∷ 37 ∷ 1145905955
+    ∷ 8 ∷ 0 ∷ 0 ∷ 0 ∷ 0 ∷ 0 ∷ 0 ∷ 1 ∷ 209 ∷ 2 ∷ 209 ∷ 353 ∷ 144 ∷ 1195582243 ∷ 4 ∷ 0 ∷ 10 ∷ 7 ∷ 4294967296 ∷ 4294967295 ∷ 1 ∷ 1 ∷ 480 ∷ 1
+    ∷ 360 ∷ 484 ∷ 124 ∷ 1413751587 ∷ 9 ∷ 0 ∷ 0 ∷ 0 ∷ 4294967296 ∷ 4294967295 ∷ 1 ∷ 1 ∷ 480 ∷ 2 ∷ 480 ∷ 544 ∷ 64 ∷ 1195647779 ∷ 3 ∷ 0 ∷ 6 ∷ 4
+    ∷ 0 ∷ 0 ∷ 0 ∷ 1 ∷ 64 ∷ 0 ∷ []
 
-tree : to_tree_exit (lent 7 84 34 0 0 978) recording
+tree : to_tree_exit (lent 7 98 34 0 0 978) recording
     ≡ record {
       answer = ok (counts 7 7 17 0 978);
       visited = visited;

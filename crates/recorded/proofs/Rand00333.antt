@@ -1,11 +1,11 @@
--- rand_00333.mf4, as the Rust answers it.
+-- rand_00333.mf4, as the Rust answers it; links behind rows, path and clear list as the scripts draw them.
 use mathlib.Core.Path.{◌≡◌, refl}
 use mathlib.Core.List.{List, [], ◌∷◌, ◌++◌}
 use Prim.Native.Nat.{ℕ}
 use lib.ListN.{replicate}
 use Rattle.fmt.specs.Text.{ascii}
-use Rattle.mdf4.specs.Act.{ok}
-use Rattle.mdf4.specs.Answers.{layout_exit, to_text_exit, to_tree_exit, clear_list_exit}
+use Rattle.mdf4.specs.Act.{ok, err, refusal}
+use Rattle.mdf4.specs.Answers.{layout_exit, to_text_exit, to_tree_exit, path_exit, clear_list_exit}
 use Rattle.mdf4.proofs.Computed.{computed}
 use Rattle.mdf4.proofs.Recordings.{lent, counts}
 
@@ -36,12 +36,12 @@ gaps =
 
 blocks : List ℕ
 blocks =
-    0 ∷ 64 ∷ 64 ∷ 1145643811 ∷ 1 ∷ 0 ∷ 0 ∷ 0 ∷ 0 ∷ 0 ∷ 0 ∷ 0 ∷ 64 ∷ 168 ∷ 104 ∷ 1145578275 ∷ 2 ∷ 0 ∷ 0 ∷ 6 ∷ 0 ∷ 0 ∷ 0 ∷ 0 ∷ 224 ∷ 225 ∷ 1
-    ∷ 1212556067 ∷ 12 ∷ 0 ∷ 0 ∷ 0 ∷ 0 ∷ 0 ∷ 0 ∷ 0 ∷ 296 ∷ 321 ∷ 25 ∷ 1146233635 ∷ 9 ∷ 0 ∷ 0 ∷ 0 ∷ 0 ∷ 0 ∷ 0 ∷ 0 ∷ 336 ∷ 400 ∷ 64
-    ∷ 1195647779 ∷ 3 ∷ 0 ∷ 6 ∷ 4 ∷ 0 ∷ 0 ∷ 0 ∷ 0 ∷ 408 ∷ 908 ∷ 500 ∷ 1279533859 ∷ 11 ∷ 0 ∷ 10 ∷ 2 ∷ 0 ∷ 0 ∷ 0 ∷ 0 ∷ 465 ∷ 489 ∷ 24
-    ∷ 1413751587 ∷ 9 ∷ 0 ∷ 0 ∷ 0 ∷ 0 ∷ 0 ∷ 0 ∷ 0 ∷ []
+    0 ∷ 64 ∷ 64 ∷ 1145643811 ∷ 1 ∷ 0 ∷ 0 ∷ 0 ∷ 0 ∷ 0 ∷ 0 ∷ 0 ∷ 0 ∷ 0 ∷ 64 ∷ 168 ∷ 104 ∷ 1145578275 ∷ 2 ∷ 0 ∷ 0 ∷ 6 ∷ 0 ∷ 0 ∷ 0 ∷ 0 ∷ 0 ∷ 0
+    ∷ 224 ∷ 225 ∷ 1 ∷ 1212556067 ∷ 12 ∷ 0 ∷ 0 ∷ 0 ∷ 0 ∷ 0 ∷ 0 ∷ 0 ∷ 64 ∷ 5 ∷ 296 ∷ 321 ∷ 25 ∷ 1146233635 ∷ 9 ∷ 0 ∷ 0 ∷ 0 ∷ 0 ∷ 0 ∷ 0 ∷ 0
+    ∷ 408 ∷ 1 ∷ 336 ∷ 400 ∷ 64 ∷ 1195647779 ∷ 3 ∷ 0 ∷ 6 ∷ 4 ∷ 0 ∷ 0 ∷ 0 ∷ 0 ∷ 64 ∷ 0 ∷ 408 ∷ 908 ∷ 500 ∷ 1279533859 ∷ 11 ∷ 0 ∷ 10 ∷ 2 ∷ 0
+    ∷ 0 ∷ 0 ∷ 0 ∷ 336 ∷ 2 ∷ 465 ∷ 489 ∷ 24 ∷ 1413751587 ∷ 9 ∷ 0 ∷ 0 ∷ 0 ∷ 0 ∷ 0 ∷ 0 ∷ 0 ∷ 408 ∷ 0 ∷ []
 
-layout : layout_exit (lent 7 84 24 8 0 0) recording
+layout : layout_exit (lent 7 98 24 8 0 0) recording
     ≡ record {
       answer = ok (counts 7 7 12 4 0);
       visited = visited;
@@ -55,7 +55,7 @@ layout : layout_exit (lent 7 84 24 8 0 0) recording
 unfolding computed recording visited links gaps blocks
 layout = refl
 
-text : to_text_exit (lent 7 84 24 8 0 2291) recording
+text : to_text_exit (lent 7 98 24 8 0 2291) recording
     ≡ record {
       answer = ok (counts 7 7 12 4 2291);
       visited = visited;
@@ -97,7 +97,7 @@ text : to_text_exit (lent 7 84 24 8 0 2291) recording
 unfolding computed recording visited links gaps blocks
 text = refl
 
-clear : clear_list_exit (lent 7 84 24 8 42 72) recording
+clear : clear_list_exit (lent 7 98 24 8 42 72) recording
     ≡ record {
       answer = ok (counts 7 7 12 4 72);
       visited = visited;
@@ -113,14 +113,33 @@ clear : clear_list_exit (lent 7 84 24 8 42 72) recording
 unfolding computed recording visited links gaps blocks
 clear = refl
 
+path : path_exit 296 (lent 7 98 24 8 0 4) recording
+    ≡ record {
+      answer = ok (counts 7 7 12 4 4);
+      visited = visited;
+      blocks = blocks;
+      links = links;
+      gaps = gaps;
+      scratch = replicate 0 0;
+      out =
+          64 ∷ 336 ∷ 408 ∷ 296 ∷ [];
+    }
+unfolding computed recording visited links gaps blocks
+path = refl
+
+path_short : path_exit 296 (lent 7 98 24 8 0 3) recording
+    ≡ record { answer = err (refusal 13 0 3 4); visited = replicate 7 0; blocks = replicate 98 0; links = replicate 24 0; gaps = replicate 8 0; scratch = replicate 0 0; out = replicate 3 0 }
+unfolding computed recording
+path_short = refl
+
 marked_blocks : List ℕ
 marked_blocks =
-    0 ∷ 64 ∷ 64 ∷ 1145643811 ∷ 1 ∷ 0 ∷ 0 ∷ 0 ∷ 0 ∷ 0 ∷ 0 ∷ 1 ∷ 64 ∷ 168 ∷ 104 ∷ 1145578275 ∷ 2 ∷ 0 ∷ 0 ∷ 6 ∷ 0 ∷ 0 ∷ 0 ∷ 1 ∷ 224 ∷ 225 ∷ 1
-    ∷ 1212556067 ∷ 12 ∷ 0 ∷ 0 ∷ 0 ∷ 0 ∷ 0 ∷ 0 ∷ 1 ∷ 296 ∷ 321 ∷ 25 ∷ 1146233635 ∷ 9 ∷ 0 ∷ 0 ∷ 0 ∷ 0 ∷ 0 ∷ 0 ∷ 1 ∷ 336 ∷ 400 ∷ 64
-    ∷ 1195647779 ∷ 3 ∷ 0 ∷ 6 ∷ 4 ∷ 0 ∷ 0 ∷ 0 ∷ 1 ∷ 408 ∷ 908 ∷ 500 ∷ 1279533859 ∷ 11 ∷ 0 ∷ 10 ∷ 2 ∷ 0 ∷ 0 ∷ 0 ∷ 1 ∷ 465 ∷ 489 ∷ 24
-    ∷ 1413751587 ∷ 9 ∷ 0 ∷ 0 ∷ 0 ∷ 0 ∷ 0 ∷ 0 ∷ 1 ∷ []
+    0 ∷ 64 ∷ 64 ∷ 1145643811 ∷ 1 ∷ 0 ∷ 0 ∷ 0 ∷ 0 ∷ 0 ∷ 0 ∷ 1 ∷ 0 ∷ 0 ∷ 64 ∷ 168 ∷ 104 ∷ 1145578275 ∷ 2 ∷ 0 ∷ 0 ∷ 6 ∷ 0 ∷ 0 ∷ 0 ∷ 1 ∷ 0 ∷ 0
+    ∷ 224 ∷ 225 ∷ 1 ∷ 1212556067 ∷ 12 ∷ 0 ∷ 0 ∷ 0 ∷ 0 ∷ 0 ∷ 0 ∷ 1 ∷ 64 ∷ 5 ∷ 296 ∷ 321 ∷ 25 ∷ 1146233635 ∷ 9 ∷ 0 ∷ 0 ∷ 0 ∷ 0 ∷ 0 ∷ 0 ∷ 1
+    ∷ 408 ∷ 1 ∷ 336 ∷ 400 ∷ 64 ∷ 1195647779 ∷ 3 ∷ 0 ∷ 6 ∷ 4 ∷ 0 ∷ 0 ∷ 0 ∷ 1 ∷ 64 ∷ 0 ∷ 408 ∷ 908 ∷ 500 ∷ 1279533859 ∷ 11 ∷ 0 ∷ 10 ∷ 2 ∷ 0
+    ∷ 0 ∷ 0 ∷ 1 ∷ 336 ∷ 2 ∷ 465 ∷ 489 ∷ 24 ∷ 1413751587 ∷ 9 ∷ 0 ∷ 0 ∷ 0 ∷ 0 ∷ 0 ∷ 0 ∷ 1 ∷ 408 ∷ 0 ∷ []
 
-tree : to_tree_exit (lent 7 84 24 8 0 644) recording
+tree : to_tree_exit (lent 7 98 24 8 0 644) recording
     ≡ record {
       answer = ok (counts 7 7 12 4 644);
       visited = visited;

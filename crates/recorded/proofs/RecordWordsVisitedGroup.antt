@@ -1,11 +1,11 @@
--- record_words_visited_group.mf4, as the Rust answers it.
+-- record_words_visited_group.mf4, as the Rust answers it; links behind rows, path and clear list as the scripts draw them.
 use mathlib.Core.Path.{◌≡◌, refl}
 use mathlib.Core.List.{List, [], ◌∷◌, ◌++◌}
 use Prim.Native.Nat.{ℕ}
 use lib.ListN.{replicate}
 use Rattle.fmt.specs.Text.{ascii}
-use Rattle.mdf4.specs.Act.{ok}
-use Rattle.mdf4.specs.Answers.{layout_exit, to_text_exit, to_tree_exit, clear_list_exit}
+use Rattle.mdf4.specs.Act.{ok, err, refusal}
+use Rattle.mdf4.specs.Answers.{layout_exit, to_text_exit, to_tree_exit, path_exit, clear_list_exit}
 use Rattle.mdf4.proofs.Computed.{computed}
 use Rattle.mdf4.proofs.Recordings.{lent, counts}
 
@@ -34,11 +34,12 @@ gaps =
 
 blocks : List ℕ
 blocks =
-    0 ∷ 64 ∷ 64 ∷ 1145643811 ∷ 1 ∷ 0 ∷ 0 ∷ 0 ∷ 0 ∷ 0 ∷ 0 ∷ 0 ∷ 64 ∷ 168 ∷ 104 ∷ 1145578275 ∷ 2 ∷ 0 ∷ 0 ∷ 6 ∷ 0 ∷ 0 ∷ 0 ∷ 0 ∷ 168 ∷ 232 ∷ 64
-    ∷ 1195647779 ∷ 3 ∷ 0 ∷ 6 ∷ 4 ∷ 0 ∷ 0 ∷ 0 ∷ 0 ∷ 232 ∷ 296 ∷ 64 ∷ 1195647779 ∷ 3 ∷ 1 ∷ 16 ∷ 4 ∷ 0 ∷ 0 ∷ 0 ∷ 0 ∷ 296 ∷ 400 ∷ 104
-    ∷ 1195582243 ∷ 4 ∷ 0 ∷ 10 ∷ 6 ∷ 6 ∷ 1 ∷ 1 ∷ 0 ∷ 400 ∷ 432 ∷ 32 ∷ 1413751587 ∷ 9 ∷ 0 ∷ 0 ∷ 0 ∷ 0 ∷ 0 ∷ 3 ∷ 0 ∷ []
+    0 ∷ 64 ∷ 64 ∷ 1145643811 ∷ 1 ∷ 0 ∷ 0 ∷ 0 ∷ 0 ∷ 0 ∷ 0 ∷ 0 ∷ 0 ∷ 0 ∷ 64 ∷ 168 ∷ 104 ∷ 1145578275 ∷ 2 ∷ 0 ∷ 0 ∷ 6 ∷ 0 ∷ 0 ∷ 0 ∷ 0 ∷ 0 ∷ 0
+    ∷ 168 ∷ 232 ∷ 64 ∷ 1195647779 ∷ 3 ∷ 0 ∷ 6 ∷ 4 ∷ 0 ∷ 0 ∷ 0 ∷ 0 ∷ 64 ∷ 0 ∷ 232 ∷ 296 ∷ 64 ∷ 1195647779 ∷ 3 ∷ 1 ∷ 16 ∷ 4 ∷ 0 ∷ 0 ∷ 0 ∷ 0
+    ∷ 168 ∷ 0 ∷ 296 ∷ 400 ∷ 104 ∷ 1195582243 ∷ 4 ∷ 0 ∷ 10 ∷ 6 ∷ 6 ∷ 1 ∷ 1 ∷ 0 ∷ 168 ∷ 1 ∷ 400 ∷ 432 ∷ 32 ∷ 1413751587 ∷ 9 ∷ 0 ∷ 0 ∷ 0 ∷ 0
+    ∷ 0 ∷ 3 ∷ 0 ∷ 232 ∷ 2 ∷ []
 
-layout : layout_exit (lent 6 72 40 0 0 0) recording
+layout : layout_exit (lent 6 84 40 0 0 0) recording
     ≡ record {
       answer = ok (counts 6 6 20 0 0);
       visited = visited;
@@ -52,7 +53,7 @@ layout : layout_exit (lent 6 72 40 0 0 0) recording
 unfolding computed recording visited links gaps blocks
 layout = refl
 
-text : to_text_exit (lent 6 72 40 0 0 2383) recording
+text : to_text_exit (lent 6 84 40 0 0 2383) recording
     ≡ record {
       answer = ok (counts 6 6 20 0 2383);
       visited = visited;
@@ -92,7 +93,7 @@ text : to_text_exit (lent 6 72 40 0 0 2383) recording
 unfolding computed recording visited links gaps blocks
 text = refl
 
-clear : clear_list_exit (lent 6 72 40 0 32 24) recording
+clear : clear_list_exit (lent 6 84 40 0 32 24) recording
     ≡ record {
       answer = ok (counts 6 6 20 0 24);
       visited = visited;
@@ -106,13 +107,33 @@ clear : clear_list_exit (lent 6 72 40 0 32 24) recording
 unfolding computed recording visited links gaps blocks
 clear = refl
 
+path : path_exit 400 (lent 6 84 40 0 0 4) recording
+    ≡ record {
+      answer = ok (counts 6 6 20 0 4);
+      visited = visited;
+      blocks = blocks;
+      links = links;
+      gaps = gaps;
+      scratch = replicate 0 0;
+      out =
+          64 ∷ 168 ∷ 232 ∷ 400 ∷ [];
+    }
+unfolding computed recording visited links gaps blocks
+path = refl
+
+path_short : path_exit 400 (lent 6 84 40 0 0 3) recording
+    ≡ record { answer = err (refusal 13 0 3 4); visited = replicate 6 0; blocks = replicate 84 0; links = replicate 40 0; gaps = replicate 0 0; scratch = replicate 0 0; out = replicate 3 0 }
+unfolding computed recording
+path_short = refl
+
 marked_blocks : List ℕ
 marked_blocks =
-    0 ∷ 64 ∷ 64 ∷ 1145643811 ∷ 1 ∷ 0 ∷ 0 ∷ 0 ∷ 0 ∷ 0 ∷ 0 ∷ 1 ∷ 64 ∷ 168 ∷ 104 ∷ 1145578275 ∷ 2 ∷ 0 ∷ 0 ∷ 6 ∷ 0 ∷ 0 ∷ 0 ∷ 1 ∷ 168 ∷ 232 ∷ 64
-    ∷ 1195647779 ∷ 3 ∷ 0 ∷ 6 ∷ 4 ∷ 0 ∷ 0 ∷ 0 ∷ 1 ∷ 232 ∷ 296 ∷ 64 ∷ 1195647779 ∷ 3 ∷ 1 ∷ 16 ∷ 4 ∷ 0 ∷ 0 ∷ 0 ∷ 1 ∷ 296 ∷ 400 ∷ 104
-    ∷ 1195582243 ∷ 4 ∷ 0 ∷ 10 ∷ 6 ∷ 6 ∷ 1 ∷ 1 ∷ 1 ∷ 400 ∷ 432 ∷ 32 ∷ 1413751587 ∷ 9 ∷ 0 ∷ 0 ∷ 0 ∷ 0 ∷ 0 ∷ 3 ∷ 1 ∷ []
+    0 ∷ 64 ∷ 64 ∷ 1145643811 ∷ 1 ∷ 0 ∷ 0 ∷ 0 ∷ 0 ∷ 0 ∷ 0 ∷ 1 ∷ 0 ∷ 0 ∷ 64 ∷ 168 ∷ 104 ∷ 1145578275 ∷ 2 ∷ 0 ∷ 0 ∷ 6 ∷ 0 ∷ 0 ∷ 0 ∷ 1 ∷ 0 ∷ 0
+    ∷ 168 ∷ 232 ∷ 64 ∷ 1195647779 ∷ 3 ∷ 0 ∷ 6 ∷ 4 ∷ 0 ∷ 0 ∷ 0 ∷ 1 ∷ 64 ∷ 0 ∷ 232 ∷ 296 ∷ 64 ∷ 1195647779 ∷ 3 ∷ 1 ∷ 16 ∷ 4 ∷ 0 ∷ 0 ∷ 0 ∷ 1
+    ∷ 168 ∷ 0 ∷ 296 ∷ 400 ∷ 104 ∷ 1195582243 ∷ 4 ∷ 0 ∷ 10 ∷ 6 ∷ 6 ∷ 1 ∷ 1 ∷ 1 ∷ 168 ∷ 1 ∷ 400 ∷ 432 ∷ 32 ∷ 1413751587 ∷ 9 ∷ 0 ∷ 0 ∷ 0 ∷ 0
+    ∷ 0 ∷ 3 ∷ 1 ∷ 232 ∷ 2 ∷ []
 
-tree : to_tree_exit (lent 6 72 40 0 0 629) recording
+tree : to_tree_exit (lent 6 84 40 0 0 629) recording
     ≡ record {
       answer = ok (counts 6 6 20 0 629);
       visited = visited;

@@ -1,11 +1,11 @@
--- short_name_visited.mf4, as the amended Rust answers it.
+-- short_name_visited.mf4, as the amended Rust answers it; links behind rows, path and clear list as the scripts draw them.
 use mathlib.Core.Path.{◌≡◌, refl}
 use mathlib.Core.List.{List, [], ◌∷◌, ◌++◌}
 use Prim.Native.Nat.{ℕ}
 use lib.ListN.{replicate}
 use Rattle.fmt.specs.Text.{ascii}
-use Rattle.mdf4.specs.Act.{ok}
-use Rattle.mdf4.specs.Answers.{layout_exit, to_text_exit, to_tree_exit, clear_list_exit}
+use Rattle.mdf4.specs.Act.{ok, err, refusal}
+use Rattle.mdf4.specs.Answers.{layout_exit, to_text_exit, to_tree_exit, path_exit, clear_list_exit}
 use Rattle.mdf4.proofs.Computed.{computed}
 use Rattle.mdf4.proofs.Recordings.{lent, counts}
 
@@ -35,12 +35,12 @@ gaps =
 
 blocks : List ℕ
 blocks =
-    0 ∷ 64 ∷ 64 ∷ 1145643811 ∷ 1 ∷ 0 ∷ 0 ∷ 0 ∷ 0 ∷ 0 ∷ 0 ∷ 0 ∷ 64 ∷ 168 ∷ 104 ∷ 1145578275 ∷ 2 ∷ 0 ∷ 0 ∷ 6 ∷ 0 ∷ 0 ∷ 0 ∷ 0 ∷ 168 ∷ 232 ∷ 64
-    ∷ 1195647779 ∷ 3 ∷ 0 ∷ 6 ∷ 4 ∷ 0 ∷ 0 ∷ 0 ∷ 0 ∷ 232 ∷ 336 ∷ 104 ∷ 1195582243 ∷ 4 ∷ 0 ∷ 10 ∷ 6 ∷ 0 ∷ 0 ∷ 0 ∷ 0 ∷ 336 ∷ 496 ∷ 160
-    ∷ 1313022755 ∷ 5 ∷ 0 ∷ 16 ∷ 8 ∷ 0 ∷ 0 ∷ 0 ∷ 0 ∷ 496 ∷ 656 ∷ 160 ∷ 1313022755 ∷ 5 ∷ 1 ∷ 24 ∷ 8 ∷ 0 ∷ 0 ∷ 0 ∷ 0 ∷ 656 ∷ 679 ∷ 23
-    ∷ 1481909027 ∷ 7 ∷ 0 ∷ 0 ∷ 0 ∷ 0 ∷ 0 ∷ 0 ∷ 0 ∷ []
+    0 ∷ 64 ∷ 64 ∷ 1145643811 ∷ 1 ∷ 0 ∷ 0 ∷ 0 ∷ 0 ∷ 0 ∷ 0 ∷ 0 ∷ 0 ∷ 0 ∷ 64 ∷ 168 ∷ 104 ∷ 1145578275 ∷ 2 ∷ 0 ∷ 0 ∷ 6 ∷ 0 ∷ 0 ∷ 0 ∷ 0 ∷ 0 ∷ 0
+    ∷ 168 ∷ 232 ∷ 64 ∷ 1195647779 ∷ 3 ∷ 0 ∷ 6 ∷ 4 ∷ 0 ∷ 0 ∷ 0 ∷ 0 ∷ 64 ∷ 0 ∷ 232 ∷ 336 ∷ 104 ∷ 1195582243 ∷ 4 ∷ 0 ∷ 10 ∷ 6 ∷ 0 ∷ 0 ∷ 0 ∷ 0
+    ∷ 168 ∷ 1 ∷ 336 ∷ 496 ∷ 160 ∷ 1313022755 ∷ 5 ∷ 0 ∷ 16 ∷ 8 ∷ 0 ∷ 0 ∷ 0 ∷ 0 ∷ 232 ∷ 1 ∷ 496 ∷ 656 ∷ 160 ∷ 1313022755 ∷ 5 ∷ 1 ∷ 24 ∷ 8 ∷ 0
+    ∷ 0 ∷ 0 ∷ 0 ∷ 336 ∷ 0 ∷ 656 ∷ 679 ∷ 23 ∷ 1481909027 ∷ 7 ∷ 0 ∷ 0 ∷ 0 ∷ 0 ∷ 0 ∷ 0 ∷ 0 ∷ 336 ∷ 6 ∷ []
 
-layout : layout_exit (lent 7 84 64 2 0 0) recording
+layout : layout_exit (lent 7 98 64 2 0 0) recording
     ≡ record {
       answer = ok (counts 7 7 32 1 0);
       visited = visited;
@@ -54,7 +54,7 @@ layout : layout_exit (lent 7 84 64 2 0 0) recording
 unfolding computed recording visited links gaps blocks
 layout = refl
 
-text : to_text_exit (lent 7 84 64 2 0 3416) recording
+text : to_text_exit (lent 7 98 64 2 0 3416) recording
     ≡ record {
       answer = ok (counts 7 7 32 1 3416);
       visited = visited;
@@ -104,7 +104,7 @@ text : to_text_exit (lent 7 84 64 2 0 3416) recording
 unfolding computed recording visited links gaps blocks
 text = refl
 
-clear : clear_list_exit (lent 7 84 64 2 40 24) recording
+clear : clear_list_exit (lent 7 98 64 2 40 24) recording
     ≡ record {
       answer = ok (counts 7 7 32 1 24);
       visited = visited;
@@ -118,14 +118,33 @@ clear : clear_list_exit (lent 7 84 64 2 40 24) recording
 unfolding computed recording visited links gaps blocks
 clear = refl
 
+path : path_exit 496 (lent 7 98 64 2 0 5) recording
+    ≡ record {
+      answer = ok (counts 7 7 32 1 5);
+      visited = visited;
+      blocks = blocks;
+      links = links;
+      gaps = gaps;
+      scratch = replicate 0 0;
+      out =
+          64 ∷ 168 ∷ 232 ∷ 336 ∷ 496 ∷ [];
+    }
+unfolding computed recording visited links gaps blocks
+path = refl
+
+path_short : path_exit 496 (lent 7 98 64 2 0 4) recording
+    ≡ record { answer = err (refusal 13 0 4 5); visited = replicate 7 0; blocks = replicate 98 0; links = replicate 64 0; gaps = replicate 2 0; scratch = replicate 0 0; out = replicate 4 0 }
+unfolding computed recording
+path_short = refl
+
 marked_blocks : List ℕ
 marked_blocks =
-    0 ∷ 64 ∷ 64 ∷ 1145643811 ∷ 1 ∷ 0 ∷ 0 ∷ 0 ∷ 0 ∷ 0 ∷ 0 ∷ 1 ∷ 64 ∷ 168 ∷ 104 ∷ 1145578275 ∷ 2 ∷ 0 ∷ 0 ∷ 6 ∷ 0 ∷ 0 ∷ 0 ∷ 1 ∷ 168 ∷ 232 ∷ 64
-    ∷ 1195647779 ∷ 3 ∷ 0 ∷ 6 ∷ 4 ∷ 0 ∷ 0 ∷ 0 ∷ 1 ∷ 232 ∷ 336 ∷ 104 ∷ 1195582243 ∷ 4 ∷ 0 ∷ 10 ∷ 6 ∷ 0 ∷ 0 ∷ 0 ∷ 1 ∷ 336 ∷ 496 ∷ 160
-    ∷ 1313022755 ∷ 5 ∷ 0 ∷ 16 ∷ 8 ∷ 0 ∷ 0 ∷ 0 ∷ 1 ∷ 496 ∷ 656 ∷ 160 ∷ 1313022755 ∷ 5 ∷ 1 ∷ 24 ∷ 8 ∷ 0 ∷ 0 ∷ 0 ∷ 1 ∷ 656 ∷ 679 ∷ 23
-    ∷ 1481909027 ∷ 7 ∷ 0 ∷ 0 ∷ 0 ∷ 0 ∷ 0 ∷ 0 ∷ 1 ∷ []
+    0 ∷ 64 ∷ 64 ∷ 1145643811 ∷ 1 ∷ 0 ∷ 0 ∷ 0 ∷ 0 ∷ 0 ∷ 0 ∷ 1 ∷ 0 ∷ 0 ∷ 64 ∷ 168 ∷ 104 ∷ 1145578275 ∷ 2 ∷ 0 ∷ 0 ∷ 6 ∷ 0 ∷ 0 ∷ 0 ∷ 1 ∷ 0 ∷ 0
+    ∷ 168 ∷ 232 ∷ 64 ∷ 1195647779 ∷ 3 ∷ 0 ∷ 6 ∷ 4 ∷ 0 ∷ 0 ∷ 0 ∷ 1 ∷ 64 ∷ 0 ∷ 232 ∷ 336 ∷ 104 ∷ 1195582243 ∷ 4 ∷ 0 ∷ 10 ∷ 6 ∷ 0 ∷ 0 ∷ 0 ∷ 1
+    ∷ 168 ∷ 1 ∷ 336 ∷ 496 ∷ 160 ∷ 1313022755 ∷ 5 ∷ 0 ∷ 16 ∷ 8 ∷ 0 ∷ 0 ∷ 0 ∷ 1 ∷ 232 ∷ 1 ∷ 496 ∷ 656 ∷ 160 ∷ 1313022755 ∷ 5 ∷ 1 ∷ 24 ∷ 8 ∷ 0
+    ∷ 0 ∷ 0 ∷ 1 ∷ 336 ∷ 0 ∷ 656 ∷ 679 ∷ 23 ∷ 1481909027 ∷ 7 ∷ 0 ∷ 0 ∷ 0 ∷ 0 ∷ 0 ∷ 0 ∷ 1 ∷ 336 ∷ 6 ∷ []
 
-tree : to_tree_exit (lent 7 84 64 2 0 747) recording
+tree : to_tree_exit (lent 7 98 64 2 0 747) recording
     ≡ record {
       answer = ok (counts 7 7 32 1 747);
       visited = visited;

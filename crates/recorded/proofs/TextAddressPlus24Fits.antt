@@ -1,11 +1,11 @@
--- text_address_plus_24_fits.mf4, as the Rust answers it.
+-- text_address_plus_24_fits.mf4, as the Rust answers it; links behind rows, path and clear list as the scripts draw them.
 use mathlib.Core.Path.{◌≡◌, refl}
 use mathlib.Core.List.{List, [], ◌∷◌, ◌++◌}
 use Prim.Native.Nat.{ℕ}
 use lib.ListN.{replicate}
 use Rattle.fmt.specs.Text.{ascii}
-use Rattle.mdf4.specs.Act.{ok}
-use Rattle.mdf4.specs.Answers.{layout_exit, to_text_exit, to_tree_exit, clear_list_exit}
+use Rattle.mdf4.specs.Act.{ok, err, refusal}
+use Rattle.mdf4.specs.Answers.{layout_exit, to_text_exit, to_tree_exit, path_exit, clear_list_exit}
 use Rattle.mdf4.proofs.Computed.{computed}
 use Rattle.mdf4.proofs.Recordings.{lent, counts}
 
@@ -28,9 +28,10 @@ gaps =
 
 blocks : List ℕ
 blocks =
-    0 ∷ 64 ∷ 64 ∷ 1145643811 ∷ 1 ∷ 0 ∷ 0 ∷ 0 ∷ 0 ∷ 0 ∷ 0 ∷ 0 ∷ 64 ∷ 168 ∷ 104 ∷ 1145578275 ∷ 2 ∷ 0 ∷ 0 ∷ 6 ∷ 0 ∷ 0 ∷ 0 ∷ 0 ∷ []
+    0 ∷ 64 ∷ 64 ∷ 1145643811 ∷ 1 ∷ 0 ∷ 0 ∷ 0 ∷ 0 ∷ 0 ∷ 0 ∷ 0 ∷ 0 ∷ 0 ∷ 64 ∷ 168 ∷ 104 ∷ 1145578275 ∷ 2 ∷ 0 ∷ 0 ∷ 6 ∷ 0 ∷ 0 ∷ 0 ∷ 0 ∷ 0 ∷ 0
+    ∷ []
 
-layout : layout_exit (lent 3 24 12 0 0 0) recording
+layout : layout_exit (lent 3 28 12 0 0 0) recording
     ≡ record {
       answer = ok (counts 3 2 6 0 0);
       visited = visited;
@@ -44,7 +45,7 @@ layout : layout_exit (lent 3 24 12 0 0 0) recording
 unfolding computed recording visited links gaps blocks
 layout = refl
 
-text : to_text_exit (lent 3 24 12 0 0 1012) recording
+text : to_text_exit (lent 3 28 12 0 0 1012) recording
     ≡ record {
       answer = ok (counts 3 2 6 0 1012);
       visited = visited;
@@ -68,7 +69,7 @@ text : to_text_exit (lent 3 24 12 0 0 1012) recording
 unfolding computed recording visited links gaps blocks
 text = refl
 
-clear : clear_list_exit (lent 3 24 12 0 4 24) recording
+clear : clear_list_exit (lent 3 28 12 0 4 24) recording
     ≡ record {
       answer = ok (counts 3 2 6 0 24);
       visited = visited;
@@ -82,11 +83,31 @@ clear : clear_list_exit (lent 3 24 12 0 4 24) recording
 unfolding computed recording visited links gaps blocks
 clear = refl
 
+path : path_exit 64 (lent 3 28 12 0 0 1) recording
+    ≡ record {
+      answer = ok (counts 3 2 6 0 1);
+      visited = visited;
+      blocks = blocks;
+      links = links;
+      gaps = gaps;
+      scratch = replicate 0 0;
+      out =
+          64 ∷ [];
+    }
+unfolding computed recording visited links gaps blocks
+path = refl
+
+path_short : path_exit 64 (lent 3 28 12 0 0 0) recording
+    ≡ record { answer = err (refusal 13 0 0 1); visited = replicate 3 0; blocks = replicate 28 0; links = replicate 12 0; gaps = replicate 0 0; scratch = replicate 0 0; out = replicate 0 0 }
+unfolding computed recording
+path_short = refl
+
 marked_blocks : List ℕ
 marked_blocks =
-    0 ∷ 64 ∷ 64 ∷ 1145643811 ∷ 1 ∷ 0 ∷ 0 ∷ 0 ∷ 0 ∷ 0 ∷ 0 ∷ 1 ∷ 64 ∷ 168 ∷ 104 ∷ 1145578275 ∷ 2 ∷ 0 ∷ 0 ∷ 6 ∷ 0 ∷ 0 ∷ 0 ∷ 1 ∷ []
+    0 ∷ 64 ∷ 64 ∷ 1145643811 ∷ 1 ∷ 0 ∷ 0 ∷ 0 ∷ 0 ∷ 0 ∷ 0 ∷ 1 ∷ 0 ∷ 0 ∷ 64 ∷ 168 ∷ 104 ∷ 1145578275 ∷ 2 ∷ 0 ∷ 0 ∷ 6 ∷ 0 ∷ 0 ∷ 0 ∷ 1 ∷ 0 ∷ 0
+    ∷ []
 
-tree : to_tree_exit (lent 3 24 12 0 0 134) recording
+tree : to_tree_exit (lent 3 28 12 0 0 134) recording
     ≡ record {
       answer = ok (counts 3 2 6 0 134);
       visited = visited;

@@ -1,7 +1,8 @@
-// Replays the Rust's recorded answers: standard input is the pack that tools/pack.py wrote, whose parts are said there. Each entry is
-// called with tables, counts and an output lent exactly, with more than enough that is not a whole number of rows, and with each one short.
-// All of it is done again with the recording that the blanker leaves, but for unfinalised ones. Before each call all lent memory is filled
-// with ones. Prints the place of each recording that is answered otherwise, and how many there are.
+// Replays the Rust's recorded answers: standard input is the pack that tools/pack.py wrote, whose parts are said there. Each entry
+// but `path`, for which there is the program `paths`, is called with tables, counts and an output lent exactly, with more than enough that
+// is not a whole number of rows, and with each one short. All of it is done again with the recording that the blanker leaves, but for
+// unfinalised ones. Before each call all lent memory is filled with ones. Prints the place of each recording that is answered otherwise,
+// and how many there are.
 #![tactic(auto)]
 
 mod calls;

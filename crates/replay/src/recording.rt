@@ -12,7 +12,7 @@ pub const HEAD: usize = 80;
 // Words that there are to lend of each table, and bytes of the output.
 pub const VISITED: usize = 1024;
 
-pub const BLOCKS: usize = 12288;
+pub const BLOCKS: usize = 1024 * BLOCK_ROW_WORDS;
 
 pub const LINKS: usize = 4096;
 

@@ -1,0 +1,2 @@
+-- Laws that the proofs of this entry cite.
+pub mod Exits

@@ -1,0 +1,3 @@
+-- Laws that the proofs of the path's functions cite.
+pub mod Finding
+pub mod Going
