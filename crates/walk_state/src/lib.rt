@@ -3,7 +3,7 @@
 
 #![tactic(auto)]
 
-ghost use Rattle.std.specs.Prelude.{◌≡◌, List, [], ◌∷◌, ℕ, ◌+◌, ◌*◌, ◌^◌, ◌≤◌, ◌<◌, ltb, length};
+ghost use Rattle.std.specs.Prelude.{◌≡◌, List, [], ◌∷◌, ℕ, ◌+◌, ◌*◌, ◌^◌, ◌≤◌, ◌<◌, ltb, length, take};
 ghost use Rattle.mdf4.specs.Act as spec;
 ghost use Rattle.mdf4.specs.Kinds as kinds;
 ghost use Rattle.mdf4.specs.Walk as walk;
@@ -121,7 +121,7 @@ impl Walk {
 
 // A target and its four bytes have to lie below 2^64. Refusal 7 is written here, in `check_room`, in `walk_text_like` and in
 // `read_text_at`: a function for it would answer the sum, which two of the four don't need.
-fn check_target(target: u64) -> Result<(), MdfError>
+pub fn check_target(target: u64) -> Result<(), MdfError>
     ensures { told result ≡ spec.check (ltb (target + 4) (2 ^ 64)) (spec.refusal 7 target target 4) }
 {
     if target.checked_add(4).is_none() {
@@ -132,6 +132,13 @@ fn check_target(target: u64) -> Result<(), MdfError>
         });
     }
     Ok(())
+}
+
+// Whether an offset is among the first n of the visited table, or among all of it where it has fewer.
+pub fn seen(visited: &[u64], n: usize, at: u64) -> bool
+    ensures { result ≡ spec.elem at (take n visited.now) }
+{
+    visited[..n.min(visited.len())].contains(&at)
 }
 
 // A walk of a recording: the tables lent to it hold its state.
@@ -152,7 +159,7 @@ impl<'a> Walker<'a> {
     pub fn seen(&self, at: u64) -> bool
         ensures { result ≡ spec.elem at (holds self.now).visited }
     {
-        self.visited[..self.walk.visited].contains(&at)
+        seen(self.visited, self.walk.visited, at)
     }
 
     // Marks an offset as visited.
