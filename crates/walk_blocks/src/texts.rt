@@ -1,11 +1,12 @@
 // Texts, sources and conversions: the Rust's `walk_text_like`, `walk_source` and `walk_conversion`.
-ghost use Rattle.std.specs.Prelude.{◌≡◌, ◌+◌, ◌≤◌, [], length, IfOk, IfErr};
-ghost use Rattle.mdf4.specs.Act.{err};
+ghost use Rattle.std.specs.Prelude.{◌≡◌, ℕ, ◌+◌, ◌≤◌, List, [], length, IfOk, IfErr};
+ghost use Rattle.mdf4.specs.Act.{err, reason};
 ghost use Rattle.mdf4.specs.Bytes.{bytes};
 ghost use Rattle.mdf4.specs.Kinds.{no_records, read_block};
 ghost use Rattle.mdf4.specs.Walk as walk;
 ghost use Rattle.blocks.specs.Errors.{numbers};
-ghost use Rattle.walk_state.specs.Held.{Walks};
+ghost use Rattle.walk_state.specs.Held.{Walks, outcome};
+ghost use Rattle.walk_state.specs.Within.{held};
 ghost use Rattle.walk_blocks.specs.Blocks.{Found};
 
 use blocks::common::{BlockHeader, BlockParse};
@@ -15,7 +16,7 @@ use blocks::metadata_block::MetadataBlock;
 use blocks::source_block::SourceBlock;
 use blocks::text_block::TextBlock;
 use little_endian::read_u32;
-use walk_state::{Block, Walker};
+use walk_state::{Block, Walk, Walker, seen};
 
 // The text at an address, its kind told by its mark.
 fn read_text(file: &[u8], addr: u64) -> Result<Block, MdfError>
@@ -90,15 +91,28 @@ pub fn walk_source(walker: &mut Walker<'_>, addr: u64) -> Result<(), MdfError>
     walk_text_like(walker, source.comment_addr)
 }
 
-// A conversion is not walked: one that was not visited is refused.
-pub fn walk_conversion(walker: &Walker<'_>, channel: u64, addr: u64) -> Result<(), MdfError>
-    ensures { Walks walker.now result walker.now (walk.walk_conversion channel addr) }
+// A conversion is not walked: one that was not visited is refused. It asks the offsets visited alone, so it takes them and the counts, and
+// no walker: of any recording and any other tables it does what the definition's step does, and leaves the state as it is.
+pub fn walk_conversion(
+    visited: &[u64],
+    counts: Walk,
+    channel: u64,
+    addr: u64,
+) -> Result<(), MdfError>
+    ensures { (file b l : List ℕ) → outcome (λ u. u) result (held counts visited.now b l) ≡ reason (walk.walk_conversion channel addr file (held counts visited.now b l)) }
 {
-    if addr == 0 || walker.seen(addr) {
+    if addr == 0 || seen(visited, counts.visited, addr) {
         return Ok(());
     }
     Err(MdfError::Conversion {
         place: addr,
         channel,
     })
+}
+
+// The same of a walker's state. Where a walk's step has the walker lent for writing, lending its table on would count as a write.
+pub fn walk_channel_conversion(walker: &Walker<'_>, channel: u64, addr: u64) -> Result<(), MdfError>
+    ensures { Walks walker.now result walker.now (walk.walk_conversion channel addr) }
+{
+    walk_conversion(walker.visited, walker.walk, channel, addr)
 }

@@ -7,7 +7,8 @@ use Rattle.mdf4.specs.Act.{elem, ◌>>=◌, ◌>>◌, following, by_link}
 use Rattle.blocks.specs.Errors.{numbers}
 use Rattle.blocks.specs.declared.error.MdfError.{MdfError}
 use Rattle.walk_state.specs.declared.Walker.{Walker}
-use Rattle.walk_state.specs.Held.{holds, Keeps, Does, Walks, Stepped, mark}
+use Rattle.walk_state.specs.Held.{holds, outcome, Keeps, Does, Walks, Stepped, mark}
+use Rattle.walk_state.specs.Within.{held}
 
 pub keeps_same : {w : Walker} → Keeps w w
 keeps_same =
@@ -65,6 +66,11 @@ module _ {C D : Type 0} {g : C → D} {w w1 : Walker} where
 
   pub halt_next : {e : MdfError} {m : Act (Unit {0})} (n : Act D) → Walks w (std.Err e) w1 m → Does g w (std.Err e) w1 (m >> n)
   halt_next {m} n p = record { says = unfold ◌>>◌ in reason_err (m w.file.now (holds w)) _ p.says; keeps = p.keeps }
+
+-- a step that asks the counts and the offsets visited alone, and changes nothing: of any recording and any other tables it does what m does
+pub same_state : {w : Walker} {r : std.Result (Unit {0}) MdfError} {m : Act (Unit {0})}
+    → ((file b l : List ℕ) → outcome (λ u. u) r (held w.walk w.visited.now b l) ≡ reason (m file (held w.walk w.visited.now b l))) → Walks w r w m
+same_state {w} p = record { says = p w.file.now w.blocks.now w.links.now; keeps = keeps_same }
 
 -- a step by a link that is followed
 pub led : {A B : Type 0} {f : A → B} {w w1 w2 : Walker} {r : std.Result A MdfError} (a n : ℕ) {m : Act B} → Stepped w w1 (following a n (holds w))

@@ -14,7 +14,7 @@ use blocks::error::MdfError;
 use blocks::kind::Kind;
 use channel_name::read_text_at;
 use walk_blocks::regions::{MAX_LISTS, walk_data_region};
-use walk_blocks::texts::{walk_conversion, walk_source, walk_text_like};
+use walk_blocks::texts::{walk_channel_conversion, walk_source, walk_text_like};
 use walk_state::{Block, RecordLayout, Walker};
 
 // The channel type with data of its own: variable length signal data. No enum: a recording's types are shown as numbers,
@@ -54,7 +54,7 @@ fn walk_channel_texts(
     walk_text_like(walker, channel.name_addr)?;
     walker.follow(addr, 3);
     walk_source(walker, channel.source_addr)?;
-    walk_conversion(walker, addr, channel.conversion_addr)?;
+    walk_channel_conversion(walker, addr, channel.conversion_addr)?;
     walker.follow(addr, 6);
     walk_text_like(walker, channel.unit_addr)?;
     walker.follow(addr, 7);

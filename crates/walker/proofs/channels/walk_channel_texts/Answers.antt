@@ -11,17 +11,17 @@ returns-in_err-walk_source c =
     handed _ c.from_residual-in_err-walk_source.ensures.1
     (halt_next _ (halt_next _ (halt_next _ (next (led _ _ c.follow.ensures c.in_ok-walk_text_like.ensures) (led _ _ c.follow-2.ensures c.in_err-walk_source.ensures)))))
 
-pub returns-in_err-walk_conversion : goal.returns-in_err-walk_conversion
-returns-in_err-walk_conversion c =
-    handed _ c.from_residual-in_err-walk_conversion.ensures.1
-    (halt_next _ (halt_next _ (next (next (led _ _ c.follow.ensures c.in_ok-walk_text_like.ensures) (led _ _ c.follow-2.ensures c.in_ok-walk_source.ensures)) c.in_err-walk_conversion.ensures)))
+pub returns-in_err-walk_channel_conversion : goal.returns-in_err-walk_channel_conversion
+returns-in_err-walk_channel_conversion c =
+    handed _ c.from_residual-in_err-walk_channel_conversion.ensures.1
+    (halt_next _ (halt_next _ (next (next (led _ _ c.follow.ensures c.in_ok-walk_text_like.ensures) (led _ _ c.follow-2.ensures c.in_ok-walk_source.ensures)) c.in_err-walk_channel_conversion.ensures)))
 
 pub returns-in_err-walk_text_like-2 : goal.returns-in_err-walk_text_like-2
 returns-in_err-walk_text_like-2 c =
     handed _ c.from_residual-in_err-walk_text_like-2.ensures.1
-    (halt_next _ (next (next (next (led _ _ c.follow.ensures c.in_ok-walk_text_like.ensures) (led _ _ c.follow-2.ensures c.in_ok-walk_source.ensures)) c.in_ok-walk_conversion.ensures) (led _ _ c.follow-3.ensures c.in_err-walk_text_like-2.ensures)))
+    (halt_next _ (next (next (next (led _ _ c.follow.ensures c.in_ok-walk_text_like.ensures) (led _ _ c.follow-2.ensures c.in_ok-walk_source.ensures)) c.in_ok-walk_channel_conversion.ensures) (led _ _ c.follow-3.ensures c.in_err-walk_text_like-2.ensures)))
 
 pub returns : goal.returns
 returns c =
-    next (next (next (next (led _ _ c.follow.ensures c.in_ok-walk_text_like.ensures) (led _ _ c.follow-2.ensures c.in_ok-walk_source.ensures)) c.in_ok-walk_conversion.ensures) (led _ _ c.follow-3.ensures c.in_ok-walk_text_like-2.ensures))
+    next (next (next (next (led _ _ c.follow.ensures c.in_ok-walk_text_like.ensures) (led _ _ c.follow-2.ensures c.in_ok-walk_source.ensures)) c.in_ok-walk_channel_conversion.ensures) (led _ _ c.follow-3.ensures c.in_ok-walk_text_like-2.ensures))
     (led _ _ c.follow-4.ensures c.walk_text_like-3.ensures)
