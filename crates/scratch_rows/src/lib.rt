@@ -4,13 +4,14 @@
 #![tactic(auto)]
 
 ghost use Rattle.std.specs.Prelude.{◌≡◌, [], ℕ, ◌+◌, ◌*◌, ◌^◌, ◌≤◌, ◌<◌, length, map, get_or};
+ghost use Rattle.mdf4.specs.Bytes.{concat_map};
 ghost use Rattle.mdf4.specs.Kinds.{read_len, make_link};
 ghost use Rattle.mdf4.specs.Reads.{leads_to_block};
 ghost use Rattle.mdf4.proofs.Good.{Readable};
 ghost use Rattle.blocks.specs.Kind.{kind_named};
 ghost use Rattle.tables.specs.Gaps.{Pushed, Pushes};
 ghost use Rattle.tables.specs.Rows.{row_of, row_of_words, link_of_words};
-ghost use Rattle.scratch_rows.specs.Covers.{CanRead, name_cover, row_cover, linked_end, target_cover, covers};
+ghost use Rattle.scratch_rows.specs.Covers.{CanRead, name_cover, row_cover, linked_end, target_cover, link_cover, covers};
 
 use blocks::channel_block::ChannelBlock;
 use blocks::channel_group_block::ChannelGroupBlock;
@@ -131,6 +132,17 @@ fn put_link(file: &[u8], target: u64, scratch: &mut RangeTable<'_>)
     }
 }
 
+// The ranges of the links.
+pub fn put_links(file: &[u8], links: &[[u64; PAIR_WORDS]], scratch: &mut RangeTable<'_>)
+    requires { scratch.old.count < 2 ^ 61 }
+    ensures pushed { Pushes scratch.old (concat_map (link_cover file.now) (map link_of_words links.now)) scratch.new }
+    ensures count { scratch.new.count ≤ scratch.old.count + 2 * length links.now }
+{
+    for &[target, _] in links {
+        put_link(file, target, scratch);
+    }
+}
+
 // The ranges of the listed blocks and of the links, as rows of the scratch table: how many there are. Those behind its end are left out.
 pub fn put_spared(
     file: &[u8],
@@ -146,8 +158,6 @@ pub fn put_spared(
     for row in blocks {
         put_block(file, &BlockInfo::load(row), &mut table);
     }
-    for &[target, _] in links {
-        put_link(file, target, &mut table);
-    }
+    put_links(file, links, &mut table);
     table.count
 }

@@ -1,17 +1,12 @@
--- `put_spared` meets its contract. The invariants: the ranges of the rows passed, and of the links passed, are pushed.
+-- `put_spared` meets its contract. The invariant: the ranges of the rows passed are pushed.
 use Rattle.std.proofs.Common.{◌*◌, ◌+◌, ◌≤◌, take, map}
 use Rattle.mdf4.specs.Bytes.{concat_map}
 use Rattle.tables.specs.Gaps.{Pushes}
-use Rattle.tables.specs.Rows.{row_of_words, link_of_words}
-use Rattle.scratch_rows.specs.Covers.{row_cover, link_cover}
+use Rattle.tables.specs.Rows.{row_of_words}
+use Rattle.scratch_rows.specs.Covers.{row_cover}
 use Rattle.scratch_rows.proofs.put_spared.Given as goal
 
 abbrev pub invariant-loop-row : goal.invariant-loop-row
 invariant-loop-row l =
     Pushes l.initial.table (concat_map (row_cover l.file) (map row_of_words (take l.row-index l.blocks))) l.table
     × (l.table.count ≤ l.initial.table.count + 2 * l.row-index)
-
-abbrev pub invariant-loop-target : goal.invariant-loop-target
-invariant-loop-target l =
-    Pushes l.initial.table (concat_map (link_cover l.file) (map link_of_words (take l.target-index l.links))) l.table
-    × (l.table.count ≤ l.initial.table.count + 2 * l.target-index)
