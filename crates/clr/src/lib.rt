@@ -8,6 +8,7 @@ ghost use Rattle.mdf4.specs.Layout.{compute_gaps};
 ghost use Rattle.mdf4.specs.Clear.{range_bytes, clr_bytes};
 ghost use Rattle.tables.specs.Gaps.{range_of};
 
+use clear_ranges::count_ranges;
 use fmt::Page;
 use tables::{Gaps, PAIR_WORDS};
 
@@ -31,7 +32,7 @@ fn put_ranges(page: &mut Page<'_>, rows: &[[u64; PAIR_WORDS]], len: u64)
 pub fn put_clr(rows: &[[u64; PAIR_WORDS]], len: u64, out: &mut [u8]) -> usize
     ensures { Wrote out.old 0 (clr_bytes len (compute_gaps len 0 (map range_of rows.now))) out.new result }
 {
-    let count = Gaps::new(rows, len).count() as u64;
+    let count = count_ranges(rows, len) as u64;
     let mut page = Page::new(out);
     page.put_bytes(&CLEAR_LIST_MARK);
     page.put_bytes(&VERSION.to_le_bytes());

@@ -6,9 +6,6 @@ use native.Mathlib.Omega.{arith}
 use lib.ListN.{length, replicate, length-map}
 use borrow.Author.Tests.{le-leb, lt-leb}
 use Rattle.std.specs.Prelude.{Ok}
-use Rattle.std.specs.Iterator.{Drains, YieldsFirstBy}
-use Rattle.std.specs.declared.ops.Range as ops
-use Rattle.std.proofs.lemmas.Iterator.Consumers.{count_from_yields_List, YieldsList-from_first}
 use Rattle.fmt.proofs.Room.{drop_replicate}
 use Rattle.mdf4.specs.Bytes.{Range}
 use Rattle.mdf4.specs.Act.{Refusal, refusal, ok, err, and_then, check}
@@ -16,8 +13,6 @@ use Rattle.mdf4.specs.Layout.{Layout}
 use Rattle.mdf4.specs.Clear.{clear_ranges}
 use Rattle.mdf4.specs.Blank.{nonzero}
 use Rattle.mdf4.specs.Answers.{Lent, filled, exit, room, clearable, counted, preview_made, preview_exit}
-use Rattle.tables.specs.Gaps.{bounds, gaps_left}
-use Rattle.tables.specs.declared.Gaps.{Gaps}
 use Rattle.file_layout.specs.declared.LentTables.{LentTables}
 use Rattle.clear_layout.specs.Clearable.{Stands}
 use Rattle.clear_layout.specs.declared.Clearable.{Clearable}
@@ -51,8 +46,3 @@ module _ {n : Lent} {r s : List ℕ} {x : Clearable} {t : LentTables} (z : Stand
       let q : o ≡ map f ps ++ replicate (n.out - length (map f ps)) 0 = c.counts ∙ rw (drop_replicate (length ps) n.out 0, length-map ps f) in
       rw (e, q, c.sum_is, ← length-map ps f) (accepted_exit n (counted z.layout (map f ps)) z.fills)
       ∙ sym (counts_made_of n r z.layout z.is (omega arith))
-
--- how many gaps an iterator over them counts
-pub gaps_counted : {W k : ℕ} {g : Gaps W} {ps : List Range} → gaps_left g ≡ ps
-    → ((rs : List (ops.Range ℕ)) × Drains (YieldsFirstBy bounds gaps_left) g rs × (k ≡ length rs)) → k ≡ length ps
-gaps_counted {g = g} e ran = count_from_yields_List g _ ran (YieldsList-from_first bounds gaps_left _ e)

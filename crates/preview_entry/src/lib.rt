@@ -10,8 +10,9 @@ use answers::{Accepted, settle};
 use blanking::put_counts;
 use blocks::error::MdfError;
 use clear_layout::lay_clear;
+use clear_ranges::count_ranges;
 use file_layout::LentTables;
-use tables::{Gaps, first_rows};
+use tables::first_rows;
 
 // The preview. A refusal leaves the counts zero, and the tables and the scratch table free.
 fn preview_counts(
@@ -28,7 +29,7 @@ fn preview_counts(
     counts.fill(0);
     let cleared = lay_clear(data, tables, scratch)?;
     let spared = first_rows(scratch, cleared.scratch);
-    let needed = Gaps::new(spared, data.len() as u64).count();
+    let needed = count_ranges(spared, data.len() as u64);
     let lent = counts.len();
     if lent < needed {
         return Err(MdfError::TableTooShort {

@@ -1,18 +1,18 @@
 -- Ranges pushed on a table, and the sweep over rows that finds the gaps. Assumes nothing.
-use mathlib.Core.Path.{◌≡◌, refl, ap, ◌∙◌}
+use mathlib.Core.Path.{◌≡◌, refl, sym, ap, ◌∙◌}
 use mathlib.Core.Bool.{Bool, true, false, cond}
 use mathlib.Core.List.{List, [], ◌∷◌, ◌++◌, map}
-use Prim.Native.Nat.{ℕ, suc, ◌+◌, ◌*◌, ◌/◌, ◌≤◌, ◌<◌, max}
+use Prim.Native.Nat.{ℕ, suc, ◌+◌, ◌-◌, ◌*◌, ◌/◌, ◌≤◌, ◌<◌, max}
 use native.Mathlib.Omega.{arith}
 use lib.Dec.{ltb}
-use lib.ListN.{length, get_or, set, length-set, length-append}
-use lib.Seq.{sets, sets-eq}
+use lib.ListN.{length, get_or, drop, set, length-set, length-append, length-drop}
+use lib.Seq.{sets, sets-eq, drop-drop}
 use borrow.Author.Tests.{lt-ltb, le-ltb}
 use Rattle.mdf4.specs.Bytes.{Range, concat_map}
 use Rattle.mdf4.specs.Layout.{gap, compute_gaps}
 use Rattle.mdf4.specs.Answers.{range_words}
 use Rattle.tables.specs.declared.RangeTable.{RangeTable}
-use Rattle.tables.specs.Gaps.{Page, page, push, pushes, Pushed, Pushes, Listed, range_of}
+use Rattle.tables.specs.Gaps.{Page, page, push, pushes, Pushed, Pushes, LastOf, Listed, range_of}
 
 -- one row
 
@@ -56,6 +56,22 @@ module _ (len from : ℕ) where
   unfolding compute_gaps
   gaps_last [] e h = rw (gap_some from len h, gap_none len len (omega arith))
   gaps_last (row ∷ rows) e h = absurd (omega arith)
+
+-- the rows that a sweep has before it are the last ones of all: at its start, behind a row, and later
+pub last_all : (all : List (List ℕ)) → LastOf all all
+last_all all = let z : length all - length all ≡ 0 = omega arith in record { are = rw z }
+
+pub last_then : {all rows behind : List (List ℕ)} → LastOf all rows → LastOf rows behind → LastOf all behind
+last_then {all} {rows} {behind} p q =
+    let n : length rows ≡ length all - (length all - length rows) = ap length p.are ∙ length-drop _ all in
+    let m : length behind ≡ length rows - (length rows - length behind) = ap length q.are ∙ length-drop _ rows in
+    let k : length all - length rows + (length rows - length behind) ≡ length all - length behind = omega arith in
+    record { are = q.are ∙ ap (drop (length rows - length behind)) p.are ∙ rw (drop-drop, k) }
+
+pub last_behind : {all rows : List (List ℕ)} {row : List ℕ} {behind : List (List ℕ)} → LastOf all rows → rows ≡ row ∷ behind → LastOf all behind
+last_behind {rows = rows} {behind = behind} p e =
+    let k : length rows - length behind ≡ 1 = omega (arith, ap length e) in
+    last_then p (record { are = rw k (sym (ap (drop 1) e)) })
 
 -- n rows leave n + 1 gaps at most
 gap_most : (a b : ℕ) → length (gap a b) ≤ 1

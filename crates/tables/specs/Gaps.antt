@@ -1,5 +1,5 @@
 -- Ranges written into a lent table of two words a row.
-use Rattle.std.specs.Prelude.{◌≡◌, cond, List, [], ◌∷◌, ◌++◌, ℕ, ◌+◌, ◌*◌, ◌/◌, ◌≤◌, ltb, length, drop, set, map, get_or}
+use Rattle.std.specs.Prelude.{◌≡◌, cond, List, [], ◌∷◌, ◌++◌, ℕ, ◌+◌, ◌-◌, ◌*◌, ◌/◌, ◌≤◌, ltb, length, drop, set, map, get_or}
 use Rattle.std.specs.declared.ops.Range as ops
 use Rattle.mdf4.specs.Bytes.{Range, concat_map}
 use Rattle.mdf4.specs.Layout.{compute_gaps}
@@ -38,6 +38,10 @@ range_of w = (get_or w 0 0, get_or w 1 0)
 -- the gaps that are still to come
 abbrev pub gaps_left : {W : ℕ} → Gaps W → List Range
 gaps_left g = compute_gaps g.len g.cursor (map range_of g.rows.now)
+
+-- rows that are the last ones of all
+pub record LastOf (all rows : List (List ℕ)) : Type 0 where
+  pub are : rows ≡ drop (length all - length rows) all
 
 -- A function that answers r was to write the ranges ps into the table t: r counts them; where they fit they stand in front, and
 -- the rest is as it was. What stands in a table that is too short is left free.
