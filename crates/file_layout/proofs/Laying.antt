@@ -34,7 +34,7 @@ use Rattle.blocks.specs.Errors.{numbers}
 use Rattle.blocks.specs.declared.error.MdfError.{MdfError}
 use Rattle.file_layout.specs.declared.LentTables.{LentTables}
 use Rattle.file_layout.specs.declared.Rows.{Rows}
-use Rattle.file_layout.specs.Tables.{lent_by, Zeroed, WalkMet, Stands, LaidMet}
+use Rattle.file_layout.specs.Tables.{lent_by, Zeroed, Joins, WalkMet, Stands, LaidMet}
 use Rattle.file_layout.specs.Tables as tables
 
 -- what an answer of the walk says, without its stopping block
@@ -140,6 +140,10 @@ module _ {n : Lent} {r : List ℕ} {t : LentTables} {w : Walk} (k : tables.Walks
 pub granted : {asked : Out (Unit {0})} {n : Lent} {r : List ℕ} {t : LentTables} {x : std.Result Rows MdfError} → asked ≡ ok tt
     → LaidMet (ok tt) n r x t → LaidMet asked n r x t
 granted h m = rw h m
+
+-- tables have the blocks and gaps of themselves
+pub joined : (t : LentTables) → Joins t t t
+joined t = record { visited = refl; blocks = refl; links = refl; gaps = refl }
 
 -- the walk went through to w, the rows are ordered and the gaps are listed
 module _ {n : Lent} {r b3 g3 : List ℕ} {t : LentTables} {w : Walk} {count : ℕ} (k : tables.Walks n r w t)

@@ -36,6 +36,13 @@ pub record Zeroed (t t' : LentTables) : Type 0 where
   pub links : t'.links.now ≡ replicate (length t.links.now) 0
   pub gaps : t'.gaps.now ≡ replicate (length t.gaps.now) 0
 
+-- the tables t' have the blocks and gaps of u, and visited offsets and links as t
+pub record Joins (t u t' : LentTables) : Type 0 where
+  pub visited : t'.visited.now ≡ t.visited.now
+  pub blocks : t'.blocks.now ≡ u.blocks.now
+  pub links : t'.links.now ≡ t.links.now
+  pub gaps : t'.gaps.now ≡ u.gaps.now
+
 -- the layout y fills the tables t, of which the rows x are in use; p: the offsets that its tree has printed
 pub record Filled (n : Lent) (y : Layout) (p : List ℕ) (x : Rows) (t : LentTables) : Type 0 where
   pub visited : t.visited.now ≡ filled n.visited y.state.visited

@@ -7,7 +7,8 @@ ghost use Rattle.mdf4.specs.Act.{ok};
 ghost use Rattle.mdf4.specs.Layout.{finalized};
 ghost use Rattle.mdf4.specs.Answers.{Lent, block_row_words, pair_words};
 ghost use Rattle.tables.specs.Rows.{table};
-ghost use Rattle.file_layout.specs.Tables.{lent_by, Keeps, Zeroed, Walks, WalkMet, LaidMet};
+ghost use Rattle.file_layout.specs.Tables.{lent_by, Keeps, Zeroed, Joins, Walks, WalkMet, LaidMet};
+ghost use Rattle.file_layout.specs.declared.LentTables.{LentTables};
 
 use blocks::error::MdfError;
 use finalized::check_finalized;
@@ -47,7 +48,7 @@ impl LentTables<'_> {
     }
 
     // The first step of every entry: the tables zeroed, then the walk. A refusal leaves the tables free.
-    fn walk_file(&mut self, data: &[u8]) -> Result<Walk, MdfError>
+    pub fn walk_file(&mut self, data: &[u8]) -> Result<Walk, MdfError>
         ensures walked { (scratch out : ℕ) → WalkMet (lent_by self.old scratch out) «data».now result self.new }
         ensures keeps { Keeps self.old self.new }
     {
@@ -64,10 +65,12 @@ impl LentTables<'_> {
     }
 
     // The next one, behind what an entry asks besides: the blocks by offset and the gaps between them, in a file of len bytes. A
-    // refusal leaves the tables free. The counts come by themselves, since the walk is over.
-    fn lay_gaps(&mut self, len: u64, w: Walk) -> Result<Rows, MdfError>
+    // refusal leaves these two tables free, and the others always stay, so that what it lays may also go with others than its own.
+    // The counts come by themselves, since the walk is over.
+    pub fn lay_gaps(&mut self, len: u64, w: Walk) -> Result<Rows, MdfError>
         requires { w.blocks * block_row_words ≤ length self.old.blocks.now }
-        ensures laid { (n : Lent) (file : List ℕ) → len ≡ length file → Walks n file w self.old → LaidMet (ok tt) n file result self.new }
+        ensures laid { (n : Lent) (file : List ℕ) (t t' : LentTables) → len ≡ length file → Joins t self.old t → Joins t self.new t' → Walks n file w t → LaidMet (ok tt) n file result t' }
+        ensures others { Joins self.old self.new self.new }
         ensures keeps { Keeps self.old self.new }
     {
         let blocks = &mut *self.blocks;

@@ -1,6 +1,6 @@
 -- `LentTables::lay_finalized` meets its contract: the walk refuses, a flag is set, or the gaps are laid. Assumes nothing.
 use mathlib.Core.Path.{refl, sym}
-use Rattle.file_layout.proofs.Laying.{walk_handed, identified, asked_handed, granted}
+use Rattle.file_layout.proofs.Laying.{walk_handed, identified, asked_handed, granted, joined}
 use Rattle.file_layout.proofs.LentTables.lay_finalized.Goals as goal
 
 pub returns-in_err-w-clause-laid : goal.returns-in_err-w-clause-laid
@@ -18,4 +18,4 @@ lay_gaps-requires c = (c.in_ok-w.ensures.walked 0 0).is.within.rows.fits
 
 pub returns-clause-laid : goal.returns-clause-laid
 returns-clause-laid c scratch out =
-    granted (sym c.in_ok-check_finalized.ensures) (c.lay_gaps.ensures.laid _ _ refl (c.in_ok-w.ensures.walked scratch out).is)
+    granted (sym c.in_ok-check_finalized.ensures) (c.lay_gaps.ensures.laid _ _ _ _ refl (joined _) c.lay_gaps.ensures.others (c.in_ok-w.ensures.walked scratch out).is)
