@@ -9,7 +9,7 @@ pub loop-range-init : goal.loop-range-init
 loop-range-init c = going (rw c.into_iter-range-iterator.ensures.into_iter_gives c.new-range-items.ensures) (sym (zeroed_none 0 _))
 
 pub slice_bounds-fill-count : goal.slice_bounds-fill-count
-slice_bounds-fill-count c = (next_inner c.requires c.loop-range.invariant c.in-Some.ensures.steps).0
+slice_bounds-fill-count c = let h = next_inner c.requires c.loop-range.invariant c.in-Some.ensures.steps in omega arith
 
 pub slice_bounds-fill-start : goal.slice_bounds-fill-start
 slice_bounds-fill-start c = let h = next_inner c.requires c.loop-range.invariant c.in-Some.ensures.steps in omega arith
