@@ -47,5 +47,5 @@ pub fn read_i16(s: &[u8], at: usize) -> i16
     requires { at + 2 ≤ length s.now }
     ensures { result ≡ i16_of (num s.now at 2) }
 {
-    read_u16(s, at).cast_signed()
+    fmt::signed16(read_u16(s, at))
 }
