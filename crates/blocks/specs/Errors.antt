@@ -15,7 +15,7 @@ part_number Minor = 3
 abbrev pub numbers : MdfError → Refusal
 numbers (TooShortBuffer place expected actual) = refusal 1 place expected actual
 numbers FileIdentifierError = refusal 2 0 0 0
-numbers (InvalidVersionString part) = refusal 3 8 (part_number part) 0
+numbers (InvalidVersionString part) = refusal 3 8 part 0
 numbers (FileVersioningError number) = refusal 4 8 number 0
 numbers (BlockIDError place expected actual) = refusal 5 place expected actual
 numbers (BlockSerializationError place links_nr block_len) = refusal 6 place links_nr block_len

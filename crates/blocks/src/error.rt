@@ -33,8 +33,9 @@ pub enum MdfError {
         actual: u64,
     },
     FileIdentifierError,
+    // the number of a VersionPart
     InvalidVersionString {
-        part: VersionPart,
+        part: u64,
     },
     FileVersioningError {
         number: u64,
@@ -123,7 +124,7 @@ impl MdfError {
                 actual,
             } => four(1, place, expected, actual),
             MdfError::FileIdentifierError => four(2, 0, 0, 0),
-            MdfError::InvalidVersionString { part } => four(3, 8, u64::from(part), 0),
+            MdfError::InvalidVersionString { part } => four(3, 8, part, 0),
             MdfError::FileVersioningError { number } => four(4, 8, number, 0),
             MdfError::BlockIDError {
                 place,

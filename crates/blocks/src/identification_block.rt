@@ -27,7 +27,9 @@ fn parse_u16(text: &[u8], part: VersionPart) -> Result<u16, MdfError>
     str::from_utf8(text)
         .ok()
         .and_then(|t| t.parse().ok())
-        .ok_or(MdfError::InvalidVersionString { part })
+        .ok_or(MdfError::InvalidVersionString {
+            part: u64::from(part),
+        })
 }
 
 // The minor part, of what stands from the first '.' on.
@@ -95,7 +97,7 @@ impl<'a> IdentificationBlock<'a> {
     {
         if !is_utf8(text) {
             return Err(MdfError::InvalidVersionString {
-                part: VersionPart::Utf8,
+                part: u64::from(VersionPart::Utf8),
             });
         }
         version_of(trim(trim_end_nuls(text)))
