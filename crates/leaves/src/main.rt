@@ -34,7 +34,7 @@ enum Asked {
 }
 
 impl Asked {
-    // What the records call by a number.
+    // What the records call by a number. 0 is asked as 11 is; above 16 nothing is.
     fn of(number: u8) -> Option<Asked> {
         Some(match number {
             1 => Asked::Lossy,
@@ -47,7 +47,7 @@ impl Asked {
             8 => Asked::Preview,
             9 => Asked::OneLinePreview,
             10 => Asked::LossyLen,
-            11 => Asked::FilledText,
+            0 | 11 => Asked::FilledText,
             12 => Asked::FilledNumber,
             13 => Asked::Signed,
             14 => Asked::IsWhite,
@@ -58,10 +58,10 @@ impl Asked {
     }
 }
 
-// A record: what is asked, of which bytes, and what Rust answered.
+// A record: what is asked, if anything, of which bytes, and what Rust answered.
 #[derive(Clone, Copy)]
 struct Record<'a> {
-    asked: Asked,
+    asked: Option<Asked>,
     input: &'a [u8],
     answer: &'a [u8],
 }
@@ -82,10 +82,13 @@ fn put_version(page: &mut Page<'_>, text: &[u8]) {
 }
 
 impl Record<'_> {
-    // What is answered here; nothing of a number that has not its bytes.
+    // What is answered here; nothing where nothing is asked, and nothing of a number that has not its bytes.
     fn put_answer(&self, page: &mut Page<'_>) {
+        let Some(asked) = self.asked else {
+            return;
+        };
         let b = self.input;
-        match (self.asked, b.len()) {
+        match (asked, b.len()) {
             (Asked::Lossy, _) => page.put_lossy(b),
             (Asked::Characters, _) => page.put_dec(count_chars(b) as u64),
             (Asked::Trim, _) => page.put_lossy(trim(b)),
@@ -115,22 +118,19 @@ impl Record<'_> {
     }
 }
 
-// The record at the front of the records, and those behind it; none where it is none or its bytes aren't there.
+// The record at the front of the records, and those behind it; none where its bytes aren't there.
 fn next(b: &[u8]) -> Option<(Record<'_>, &[u8])>
     ensures { IfSome result (λ it. length it.1.now < length b.now) }
 {
     let (&[kind, n0, n1, m0, m1], b) = b.split_first_chunk::<5>()?;
     let (input, b) = b.split_at_checked(u16::from_le_bytes([n0, n1]) as usize)?;
     let (answer, b) = b.split_at_checked(u16::from_le_bytes([m0, m1]) as usize)?;
-    let asked = Asked::of(kind)?;
-    Some((
-        Record {
-            asked,
-            input,
-            answer,
-        },
-        b,
-    ))
+    let record = Record {
+        asked: Asked::of(kind),
+        input,
+        answer,
+    };
+    Some((record, b))
 }
 
 fn say(rt: &impl Print, place: usize) -> io::Result<()> {
