@@ -45,16 +45,18 @@ fn replayed(head: &[u8; HEAD], b: &[u8]) -> bool {
     let Some(recording) = Recording::parse(head, b) else {
         return false;
     };
-    match recorded(head) {
-        Err(e) => refuses(&recording, e),
-        Ok(places) => {
-            accepts(&recording, places)
-                && match unfinalized(head) {
-                    Some(e) => refuses_unfinalized(&recording, places, e),
-                    None => blanked_calls(&recording, places),
-                }
+    let places = match recorded(head) {
+        Err(e) => return refuses(&recording, e),
+        Ok(places) => places,
+    };
+    let Some(recording) = recording.with_answers(head, b) else {
+        return false;
+    };
+    accepts(&recording, places)
+        && match unfinalized(head) {
+            Some(e) => refuses_unfinalized(&recording, places, e),
+            None => blanked_calls(&recording, places),
         }
-    }
 }
 
 // Reads the parts of the recording with this head, and replays it.

@@ -138,6 +138,7 @@ pub(crate) fn unfinalized(head: &[u8; HEAD]) -> Option<Refusal> {
 }
 
 impl<'a> Recording<'a> {
+    // The recording and its tables, and nothing behind them: of a refused recording the other parts aren't looked at.
     pub(crate) fn parse(head: &[u8; HEAD], b: &'a [u8]) -> Option<Recording<'a>> {
         Some(Recording {
             file: part(head, b, 0)?,
@@ -145,12 +146,23 @@ impl<'a> Recording<'a> {
             blocks: words(head, b, 2)?,
             links: words(head, b, 3)?,
             gaps: words(head, b, 4)?,
+            text: b"",
+            tree: b"",
+            clear: b"",
+            counts: &[],
+            scratch: end_of(head, 9),
+            total: read_u32(head, 44) as u64,
+        })
+    }
+
+    // The same with the parts that say what the entries answer.
+    pub(crate) fn with_answers(self, head: &[u8; HEAD], b: &'a [u8]) -> Option<Recording<'a>> {
+        Some(Recording {
             text: part(head, b, 5)?,
             tree: part(head, b, 6)?,
             clear: part(head, b, 7)?,
             counts: words(head, b, 8)?,
-            scratch: end_of(head, 9),
-            total: read_u32(head, 44) as u64,
+            ..self
         })
     }
 
