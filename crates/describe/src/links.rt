@@ -89,6 +89,10 @@ fn link_name_len(kind: Kind, i: usize) -> usize
 pub fn put_link_name_left(page: &mut Page<'_>, kind: Kind, i: usize)
     ensures { Writes page.old (pad_right 28 32 (link_name (kind_named kind) i)) page.new }
 {
-    put_link_name(page, kind, i);
-    page.put_times(b' ', WIDTH.saturating_sub(link_name_len(kind, i)));
+    if kind == Kind::DL && 0 < i {
+        put_link_name(page, kind, i);
+        page.put_times(b' ', WIDTH.saturating_sub(link_name_len(kind, i)));
+    } else {
+        page.put_left(fixed_name(kind, i).as_bytes(), WIDTH);
+    }
 }

@@ -1,6 +1,6 @@
 -- The laws by which a number is written digit by digit, and some numbers' texts. Assumes nothing.
 use Prim.Native.Nat.{ℕ, zero, suc, ◌-◌, ◌+◌, ◌/◌, ◌%◌, ◌≤◌, ◌<◌}
-use native.Mathlib.Nat.{div-lt_self, mod-eq_of_lt}
+use native.Mathlib.Nat.{div-lt_self}
 use native.Mathlib.Decide.{dec_lt}
 use native.Mathlib.Omega.{arith}
 use mathlib.Core.Path.{◌≡◌, refl, sym, ap, ◌∙◌}
@@ -70,9 +70,9 @@ pad_left_snoc w p d l =
     let e : w - (length l + 1) ≡ w - 1 - length l = omega arith in
     simp (length-append, append_assoc, e)
 
-pub number_small : (w p b x : ℕ) → x < b → pad_left w p (digits b x) ≡ replicate (w - 1) p ++ (digit (x % b) ∷ [])
+pub number_small : (w p b x : ℕ) → x < b → pad_left w p (digits b x) ≡ replicate (w - 1) p ++ (digit x ∷ [])
 unfolding pad_left
-number_small w p b x h = rw (digits_small b x h, mod-eq_of_lt h)
+number_small w p b x h = rw (digits_small b x h)
 
 pub number_more : (w p b x : ℕ) → 2 ≤ b → b ≤ x → pad_left w p (digits b x) ≡ pad_left (w - 1) p (digits b (x / b)) ++ (digit (x % b) ∷ [])
 number_more w p b x hb h = rw (digits_more b x hb h) (pad_left_snoc w p (digit (x % b)) (digits b (x / b)))

@@ -1,14 +1,13 @@
 -- The laws by which a text is written one part after the other, and its beginning. Assumes nothing.
 use Prim.Native.Nat.{ℕ, ◌≤◌, ◌<◌}
+use native.Mathlib.Omega.{arith}
 use mathlib.Core.Path.{◌≡◌, refl}
-use mathlib.Core.Bool.{Bool, true, false, cond, ◌&&◌}
+use mathlib.Core.Bool.{Bool, true, false}
 use mathlib.Core.List.{List, [], ◌∷◌, ◌++◌, append-nil, map}
-use lib.Dec.{eqb}
-use lib.ListN.{length, take, replicate, length-map}
+use lib.ListN.{length, get_or, take, replicate, length-map}
 use lib.Seq.{take_all}
 use Rattle.std.proofs.lemmas.List.{take-map}
-use lib.Pointwise.{pointwise, bytes_decides}
-use borrow.Author.Tests.{le-leb, lt-leb}
+use borrow.Author.Tests.{le-leb, lt-leb, ne_eqb}
 use Rattle.utf8.specs.Utf8.{lead_of, after_lead, step_of, Chunk, char, junk, chunk_of, chunks_after, chunks, shown, shown_all}
 use Rattle.utf8.proofs.Decoding.{shown_append}
 use Rattle.fmt.specs.Text.{ascii, Writes}
@@ -23,24 +22,25 @@ preview_48 = refl
 
 -- ---- one part
 
-pub char_feed : (one : Bool) (c : List ℕ) → one ≡ true → pointwise eqb c (10 ∷ []) ≡ true → shown_all (flat one (char c ∷ [])) ≡ 32 ∷ []
+pub char_feed : (one : Bool) (c : List ℕ) → length c ≡ 1 → one ≡ true → get_or c 0 0 ≡ 10 → shown_all (flat one (char c ∷ [])) ≡ 32 ∷ []
 unfolding shown shown_all unlined
-char_feed one c o h = rw (o, (bytes_decides c (10 ∷ [])).0 h)
+char_feed one [] l o h = absurd (omega arith)
+char_feed one (b ∷ []) l o h = rw (o, h)
+char_feed one (b ∷ d ∷ c) l o h = absurd (omega arith)
 
-pub char_other : (one : Bool) (c : List ℕ) → pointwise eqb c (10 ∷ []) ≡ false → shown_all (flat one (char c ∷ [])) ≡ c
+pub char_byte : (one : Bool) (c : List ℕ) → length c ≡ 1 → (one ≡ true → get_or c 0 0 ≡ 10 → ⊥) → shown_all (flat one (char c ∷ [])) ≡ get_or c 0 0 ∷ []
 unfolding shown shown_all unlined
-char_other false c h = append-nil c
-char_other true [] h = refl
-char_other true (b ∷ []) h = go (eqb b 10) h
-  where
-    go : (t : Bool) → t && true ≡ false → (cond t 32 b ∷ []) ≡ b ∷ []
-    go true e = absurd (cc)
-    go false e = refl
-char_other true (b ∷ d ∷ c) h = append-nil (b ∷ d ∷ c)
+char_byte one [] l h = absurd (omega arith)
+char_byte one (b ∷ d ∷ c) l h = absurd (omega arith)
+char_byte false (b ∷ []) l h = refl
+char_byte true (b ∷ []) l h = rw (ne_eqb b 10 (h refl))
 
-pub char_whole : (c : List ℕ) → shown_all (flat false (char c ∷ [])) ≡ c
-unfolding shown shown_all
-char_whole c = append-nil c
+pub char_long : (one : Bool) (c : List ℕ) → (length c ≡ 1 → ⊥) → shown_all (flat one (char c ∷ [])) ≡ c
+unfolding shown shown_all unlined
+char_long false c h = append-nil c
+char_long true [] h = refl
+char_long true (b ∷ []) h = absurd (h refl)
+char_long true (b ∷ d ∷ c) h = append-nil (b ∷ d ∷ c)
 
 pub junk_mark : (one : Bool) (bs : List ℕ) → shown_all (flat one (junk bs ∷ [])) ≡ 0xef ∷ 0xbf ∷ 0xbd ∷ []
 unfolding shown shown_all unlined

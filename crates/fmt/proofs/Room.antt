@@ -4,9 +4,13 @@ use native.Mathlib.Nat.{sub-zero, zero-sub, suc-sub-suc}
 use native.Mathlib.Omega.{arith}
 use mathlib.Core.Path.{◌≡◌, refl, sym, ap, ap₂, ◌∙◌}
 use mathlib.Core.List.{List, [], ◌∷◌, ◌++◌, append_assoc}
-use lib.ListN.{length, drop, replicate, length-append, length-replicate}
+use lib.ListN.{length, take, drop, replicate, length-append, length-drop, length-replicate, take-append-drop}
+use Rattle.std.proofs.lemmas.List.{length-take-le, drop-drop}
 use lib.Seq.{set-append_seam}
-use Rattle.fmt.specs.Text.{Page, page, step, emit, Wrote}
+use borrow.Rule.Slice.Mut.{set_vals}
+use borrow.Rule.Slice.PartMut.{put_mid, Post-is}
+use Rattle.fmt.specs.Text.{Page, page, step, emit, Wrote, Writes}
+use Rattle.fmt.specs.declared.Page as lent
 use Rattle.fmt.proofs.Text.{output}
 
 -- the count
@@ -45,6 +49,33 @@ emit_room (b ∷ t) p [] h k = absurd (omega arith)
 emit_room (b ∷ t) p (x ∷ r) h k =
     rw (step_room p r x b (omega arith))
     (emit_room t (p ++ (b ∷ [])) r (omega arith) (rw length-append (omega arith)) ∙ append_assoc p (b ∷ []) (t ++ drop (length t) r))
+
+-- a page is its output and its count
+page_is : (p : Page) → p ≡ page (output p) (count p)
+page_is (page out at) = refl
+
+-- a text for which there is room behind the place at is stored there
+pub emit_fits : (out t : List ℕ) (at : ℕ) → at + length t ≤ length out → at + length t < 2 ^ 64 - 1
+    → emit (page out at) t ≡ page (take at out ++ (t ++ drop (at + length t) out)) (at + length t)
+emit_fits out t at h k =
+    let front : length (take at out) ≡ at = length-take-le at out (omega arith) in
+    let behind : length (drop at out) ≡ length out - at = length-drop at out in
+    let stored : output (emit (page (take at out ++ drop at out) (length (take at out))) t) ≡ take at out ++ (t ++ drop (length t) (drop at out)) =
+    emit_room t (take at out) (drop at out) (omega (arith, behind)) (omega (arith, front)) in
+    let counts : count (emit (page out at) t) ≡ min (at + length t) (2 ^ 64 - 1) = count_emit (page out at) t (omega arith) in
+    page_is (emit (page out at) t)
+    ∙ ap₂ page (rw (take-append-drop, front, drop-drop) at stored) (omega (arith, counts))
+
+-- the same of the code's `Page`, whose output becomes o
+pub stores : (p : lent.Page) (n : ℕ) (t o : List ℕ) → length t ≡ n → p.at + n ≤ length p.out.now → length p.out.now < 2 ^ 63
+    → o ≡ put_mid p.at (p.at + n - p.at) p.out.now t → Writes p t (record { out = set_vals o p.out; at = p.at + n })
+stores p n t o long h k e =
+    record {
+      same_reference = refl;
+      wrote = record {
+        is = rw (e, Post-is p.at (p.at + n) p.out.now (omega arith), ← long) (sym (emit_fits p.out.now t p.at (omega (arith, long)) (omega (arith, long))));
+      };
+    }
 
 pub drop_replicate : (k n v : ℕ) → drop k (replicate n v) ≡ replicate (n - k) v
 drop_replicate zero n v = rw sub-zero

@@ -8,7 +8,7 @@ ghost use Rattle.fmt.specs.Format.{piece, takes, format};
 ghost use Rattle.fmt.specs.Preview.{flat, preview};
 ghost use Rattle.utf8.specs.Utf8.{char, chunks, shown_all, lossy};
 
-use utf8::{Chunk, Chunks, count_chars, first_chars};
+use utf8::{Chunk, Chunks, count_chars, first_chars, is_utf8};
 
 // A lent output, and the number of bytes that were to be written into it so far, those that did not fit among them.
 // It is no fmt::Write: that trait promises nothing of an Err, and what is here cannot fail.
@@ -40,11 +40,39 @@ impl Page<'_> {
         self.at = at.saturating_add(1);
     }
 
-    // The bytes of s, one after the other.
-    pub fn put_bytes(&mut self, s: &[u8])
+    // The bytes of s, one after the other, also those for which there is no room. It stands apart, so that what calls `put_bytes` stays
+    // short.
+    #[inline(never)]
+    fn put_each(&mut self, s: &[u8])
         ensures { Writes self.old s.now self.new }
     {
         for &b in s {
+            self.put(b);
+        }
+    }
+
+    // The bytes of s. Where all of them fit, as nearly always, they are stored at once: one by one the page would be read and written
+    // for each.
+    #[inline]
+    pub fn put_bytes(&mut self, s: &[u8])
+        ensures { Writes self.old s.now self.new }
+    {
+        let at = self.at;
+        let out = &mut *self.out;
+        if at <= out.len() && s.len() <= out.len() - at {
+            out[at..at + s.len()].copy_from_slice(s);
+            self.at = at + s.len();
+        } else {
+            self.put_each(s);
+        }
+    }
+
+    // The byte b, n times, one after the other, as `put_each`.
+    #[inline(never)]
+    fn put_again(&mut self, b: u8, n: usize)
+        ensures { Writes self.old (replicate n b) self.new }
+    {
+        for _ in 0..n {
             self.put(b);
         }
     }
@@ -53,8 +81,13 @@ impl Page<'_> {
     pub fn put_times(&mut self, b: u8, n: usize)
         ensures { Writes self.old (replicate n b) self.new }
     {
-        for _ in 0..n {
-            self.put(b);
+        let at = self.at;
+        let out = &mut *self.out;
+        if at <= out.len() && n <= out.len() - at {
+            out[at..at + n].fill(b);
+            self.at = at + n;
+        } else {
+            self.put_again(b, n);
         }
     }
 
@@ -75,10 +108,11 @@ impl Page<'_> {
         let before = width.saturating_sub(1);
         if x < base {
             self.put_times(pad, before);
+            self.put_digit(x);
         } else {
             self.put_number(x / base, base, before, pad);
+            self.put_digit(x % base);
         }
-        self.put_digit(x % base);
     }
 
     // `{}`
@@ -151,8 +185,9 @@ impl Page<'_> {
     fn put_char(&mut self, c: &[u8], one: bool)
         ensures { Writes self.old (shown_all (flat one (char c.now ∷ []))) self.new }
     {
-        if one && c == b"\n".as_slice() {
-            self.put(b' ');
+        if c.len() == 1 {
+            let b = c[0];
+            self.put(if one && b == b'\n' { b' ' } else { b });
         } else {
             self.put_bytes(c);
         }
@@ -170,20 +205,25 @@ impl Page<'_> {
         }
     }
 
-    // The text, as `String::from_utf8_lossy` has it.
-    #[tactic(auto, unfolding(utf8::specs::Utf8::lossy))]
+    // The text, as `String::from_utf8_lossy` has it. One that is well-formed is written as it stands.
     pub fn put_lossy(&mut self, text: &[u8])
         ensures { Writes self.old (lossy text.now) self.new }
     {
-        self.put_chunks(text, false);
+        if is_utf8(text) {
+            self.put_bytes(text);
+        } else {
+            self.put_chunks(text, false);
+        }
     }
 
     // The first n characters of that text, and "..." where it has more; for one line, spaces in place of line feeds.
     pub fn put_preview(&mut self, text: &[u8], n: usize, one: bool)
         ensures { Writes self.old (preview n (flat one (chunks text.now))) self.new }
     {
-        self.put_chunks(first_chars(text, n), one);
-        if n < count_chars(text) {
+        if count_chars(text) <= n {
+            self.put_chunks(text, one);
+        } else {
+            self.put_chunks(first_chars(text, n), one);
             self.put_bytes(b"...");
         }
     }
@@ -209,6 +249,9 @@ pub fn signed16(u: u16) -> i16
 pub fn lossy_len(text: &[u8]) -> u64
     ensures { result ≡ min (length (lossy text.now)) (2 ^ 64 - 1) }
 {
+    if is_utf8(text) {
+        return text.len() as u64;
+    }
     let mut none = [];
     let mut page = Page::new(&mut none);
     page.put_lossy(text);

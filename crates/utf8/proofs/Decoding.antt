@@ -11,7 +11,7 @@ use Rattle.std.specs.List.{list_all}
 use Rattle.std.proofs.lemmas.Bool.Decides.{nat_tests}
 use lib.ListN.{length, take, drop, length-append, length-take, length-map, take-append-drop}
 use lib.Seq.{drop-drop, take-take, length-take-le, take_at, take_all}
-use Rattle.utf8.specs.Utf8.{between, trailing, ended, after_lead, step_of, width_of, Chunk, char, junk, chunk_of, first_chunk, chunks_after, chunks, lead_of, shown, shown_all, well_formed, bytes_of, bytes_all}
+use Rattle.utf8.specs.Utf8.{between, trailing, ended, after_lead, step_of, width_of, Chunk, char, junk, chunk_of, first_chunk, chunks_after, chunks, lead_of, shown, shown_all, lossy, well_formed, valid_utf8, bytes_of, bytes_all}
 use Rattle.utf8.specs.Parts.{held}
 use Rattle.utf8.proofs.Slices.{drop_take, drop_pred}
 use Rattle.utf8.proofs.Steps.{ended_width, after_width, width_step}
@@ -216,6 +216,17 @@ unfolding well_formed
 all_chars [] = refl
 all_chars (char bs ∷ xs) = all_chars xs
 all_chars (junk bs ∷ xs) = refl
+
+-- a well-formed text is shown as it stands
+shown_whole : (xs : List Chunk) → well_formed xs ≡ true → shown_all xs ≡ bytes_all xs
+unfolding shown_all shown bytes_all bytes_of well_formed
+shown_whole [] h = refl
+shown_whole (char bs ∷ xs) h = ap (λ (l : List ℕ). bs ++ l) (shown_whole xs h)
+shown_whole (junk bs ∷ xs) h = absurd (cc)
+
+pub lossy_whole : (s : List ℕ) → valid_utf8 s ≡ true → lossy s ≡ s
+unfolding lossy valid_utf8
+lossy_whole s h = shown_whole (chunks s) h ∙ bytes_chunks s
 
 after_le : (k : ℕ) (s : List ℕ) → length (chunks_after k s) ≤ length s
 unfolding chunks_after

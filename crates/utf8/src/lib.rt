@@ -29,6 +29,7 @@ pub enum Step {
 
 impl Step {
     // What stands at the front of the text.
+    #[inline(always)]
     pub fn of(text: &[u8]) -> Step
         requires { 0 < length text.now }
         ensures { result ≡ step_of text.now }
@@ -106,6 +107,7 @@ impl<'a> Iterator for Chunks<'a> {
 
     ghost remaining = { item_count left };
 
+    #[inline(always)]
     #[tactic(auto, using(crate::proofs::Decoding::front_part))]
     fn next(&mut self) -> Option<Chunk<'a>> {
         if self.rest.is_empty() {

@@ -1,10 +1,7 @@
--- The bytes so far are written.
-use Rattle.std.proofs.Common.{rules}
-use Rattle.fmt.proofs.Text.{writes_none, writes_take}
+-- All bytes are stored at once, or one after the other.
+use Rattle.std.proofs.Common.{arith, refl}
+use Rattle.fmt.proofs.Room.{stores}
 use Rattle.fmt.proofs.Page.put_bytes.Goals as goal
 
-pub loop-b-init : goal.loop-b-init
-loop-b-init c = writes_none _
-
-pub loop-b-preserved : goal.loop-b-preserved
-loop-b-preserved c = search (rules, writes_take)
+pub returns-then-s-out : goal.returns-then-s-out
+returns-then-s-out c = stores c.args.self.now _ c.args.s.now _ refl (omega arith) (omega arith) (rw c.copy_from_slice.ensures.after)
