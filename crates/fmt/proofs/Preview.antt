@@ -1,18 +1,17 @@
 -- The laws by which a text is written one part after the other, and its beginning. Assumes nothing.
-use Prim.Native.Nat.{ℕ, ◌≤◌, ◌<◌}
+use Prim.Native.Nat.{ℕ, ◌+◌, ◌≤◌, ◌<◌}
 use native.Mathlib.Omega.{arith}
 use mathlib.Core.Path.{◌≡◌, refl}
 use mathlib.Core.Bool.{Bool, true, false}
 use mathlib.Core.List.{List, [], ◌∷◌, ◌++◌, append-nil, map}
-use lib.ListN.{length, get_or, take, replicate, length-map}
+use lib.ListN.{length, get_or, take, replicate, length-append, length-map}
 use lib.Seq.{take_all}
 use Rattle.std.proofs.lemmas.List.{take-map}
 use borrow.Author.Tests.{le-leb, lt-leb, ne_eqb}
 use Rattle.utf8.specs.Utf8.{lead_of, after_lead, step_of, Chunk, char, junk, chunk_of, chunks_after, chunks, shown, shown_all}
 use Rattle.utf8.proofs.Decoding.{shown_append}
-use Rattle.fmt.specs.Text.{ascii, Writes}
-use Rattle.fmt.specs.declared.Page as lent
-use Rattle.fmt.proofs.Text.{Rest, rest_more}
+use Rattle.fmt.specs.Text.{ascii, Page, page, Wrote}
+use Rattle.fmt.proofs.Text.{Left, left_more}
 use Rattle.fmt.specs.Preview.{preview, unlined, flat}
 
 -- 48 of 49 characters
@@ -58,12 +57,26 @@ pub flat_cons : (one : Bool) (x : Chunk) (xs : List Chunk) → shown_all (flat o
 flat_cons true x xs = shown_append (unlined x ∷ []) (map unlined xs)
 flat_cons false x xs = shown_append (x ∷ []) xs
 
-module _ (one : Bool) {p q r : lent.Page} {t : List ℕ} {xs ys : List Chunk} (w : Rest p q t (shown_all (flat one xs))) where
-  pub part_written : {x : Chunk} → xs ≡ x ∷ ys → Writes q (shown_all (flat one (x ∷ []))) r → Rest p r t (shown_all (flat one ys))
-  part_written {x} e v = rest_more _ _ (rw (e, flat_cons one x ys) at w) v
+module _ (one : Bool) {p : Page} {t out out' : List ℕ} {at at' : ℕ} {xs ys : List Chunk} (w : Left p (page out at) t (shown_all (flat one xs))) where
+  pub part_written : {x : Chunk} → xs ≡ x ∷ ys → Wrote out at (shown_all (flat one (x ∷ []))) out' at' → Left p (page out' at') t (shown_all (flat one ys))
+  part_written {x} e v = left_more _ _ (rw (e, flat_cons one x ys) at w) v
 
-  pub mark_written : {bs : List ℕ} → xs ≡ junk bs ∷ ys → Writes q (0xef ∷ 0xbf ∷ 0xbd ∷ []) r → Rest p r t (shown_all (flat one ys))
+  pub mark_written : {bs : List ℕ} → xs ≡ junk bs ∷ ys → Wrote out at (0xef ∷ 0xbf ∷ 0xbd ∷ []) out' at' → Left p (page out' at') t (shown_all (flat one ys))
   mark_written {bs} e v = part_written e (rw (junk_mark one bs) v)
+
+-- how many bytes the parts that are to come have: those of the first, and those of the others
+module _ {xs ys : List Chunk} where
+  pub char_counts : {bs : List ℕ} → xs ≡ char bs ∷ ys → length (shown_all xs) ≡ length bs + length (shown_all ys)
+  unfolding shown shown_all
+  char_counts {bs} e = rw e (length-append bs (shown_all ys))
+
+  pub junk_counts : {bs : List ℕ} → xs ≡ junk bs ∷ ys → length (shown_all xs) ≡ 3 + length (shown_all ys)
+  unfolding shown shown_all
+  junk_counts {bs} e = rw e (length-append (0xef ∷ 0xbf ∷ 0xbd ∷ []) (shown_all ys))
+
+pub none_counts : length (shown_all []) ≡ 0
+unfolding shown_all
+none_counts = refl
 
 -- ---- the first n parts, and the mark where there are more
 

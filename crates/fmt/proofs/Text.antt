@@ -46,24 +46,39 @@ pub same_length : {out : List ℕ} {at : ℕ} {t : List ℕ} {out' : List ℕ} {
 same_length {out} {at} {t} w = ap (λ (p : Page). length (output p)) w.is ∙ length_emit (page out at) t
 
 -- one turn of a loop that writes the bytes of s, and of one that writes the byte b again and again
-pub writes_take : {p q r : lent.Page} (s : List ℕ) (i : ℕ) → i < length s → Writes p (take i s) q → Writes q (get_or s i 0 ∷ []) r → Writes p (take (i + 1) s) r
-writes_take s i h w v = rw (add-one, take-suc s i 0) (writes_then w v)
+module _ {out out' out'' : List ℕ} {at at' at'' : ℕ} where
+  pub then_take : (s : List ℕ) (i : ℕ) → i < length s → Wrote out at (take i s) out' at' → Wrote out' at' (get_or s i 0 ∷ []) out'' at''
+      → Wrote out at (take (i + 1) s) out'' at''
+  then_take s i h w v = rw (add-one, take-suc s i 0) (then w v)
 
-pub writes_same : {p q r : lent.Page} (b i : ℕ) → Writes p (replicate i b) q → Writes q (b ∷ []) r → Writes p (replicate (i + 1) b) r
-writes_same b i w v = rw (← replicate-append-replicate i 1 b) (writes_then w v)
+  pub then_same : (b i : ℕ) → Wrote out at (replicate i b) out' at' → Wrote out' at' (b ∷ []) out'' at'' → Wrote out at (replicate (i + 1) b) out'' at''
+  then_same b i w v = rw (← replicate-append-replicate i 1 b) (then w v)
 
 -- a writer of the text t on its way from the page p: at q, the text u is left
+pub record Left (p q : Page) (t u : List ℕ) : Type 0 where
+  pub rest : emit q u ≡ emit p t
+
+pub left_start : (p : Page) (t : List ℕ) → Left p p t t
+left_start p t = record { rest = refl }
+
+pub left_more : {p : Page} {out : List ℕ} {at : ℕ} {t : List ℕ} (s u : List ℕ) {out' : List ℕ} {at' : ℕ} → Left p (page out at) t (s ++ u)
+    → Wrote out at s out' at' → Left p (page out' at') t u
+left_more {out = out} {at} s u w v = record { rest = rw v.is (sym (emit_append (page out at) s u) ∙ w.rest) }
+
+pub left_done : {out : List ℕ} {at : ℕ} {t out' : List ℕ} {at' : ℕ} → Left (page out at) (page out' at') t [] → Wrote out at t out' at'
+unfolding emit
+left_done w = record { is = w.rest }
+
+-- the same of the code's `Page`
 pub record Rest (p q : lent.Page) (t u : List ℕ) : Type 0 where
   pub same_reference : q.out.ghost_name ≡ p.out.ghost_name
-  pub rest : emit (page q.out.now q.at) u ≡ emit (page p.out.now p.at) t
+  pub left : Left (page p.out.now p.at) (page q.out.now q.at) t u
 
 pub rest_start : (p : lent.Page) (t : List ℕ) → Rest p p t t
-rest_start p t = record { same_reference = refl; rest = refl }
+rest_start p t = record { same_reference = refl; left = left_start _ t }
 
 pub rest_more : {p q : lent.Page} {t : List ℕ} (s u : List ℕ) {r : lent.Page} → Rest p q t (s ++ u) → Writes q s r → Rest p r t u
-rest_more {q = q} s u w v =
-    record { same_reference = v.same_reference ∙ w.same_reference; rest = rw v.wrote.is (sym (emit_append (page q.out.now q.at) s u) ∙ w.rest) }
+rest_more s u w v = record { same_reference = v.same_reference ∙ w.same_reference; left = left_more s u w.left v.wrote }
 
 pub rest_done : {p q : lent.Page} {t : List ℕ} → Rest p q t [] → Writes p t q
-unfolding emit
-rest_done w = record { same_reference = w.same_reference; wrote = record { is = w.rest } }
+rest_done w = record { same_reference = w.same_reference; wrote = left_done w.left }

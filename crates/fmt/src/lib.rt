@@ -2,7 +2,7 @@
 #![tactic(auto)]
 
 ghost use Rattle.std.specs.Prelude.{◌≡◌, ◌∷◌, [], ◌<◌, ◌≤◌, ◌-◌, ◌^◌, min, length, replicate};
-ghost use Rattle.fmt.specs.Text.{Writes};
+ghost use Rattle.fmt.specs.Text.{Wrote, Writes};
 ghost use Rattle.fmt.specs.Digits.{digit, digits, pad_left, pad_right, dec, dec_right, hex, i16_of, dec_signed};
 ghost use Rattle.fmt.specs.Format.{piece, takes, format};
 ghost use Rattle.fmt.specs.Preview.{flat, preview};
@@ -33,22 +33,15 @@ impl Page<'_> {
     pub fn put(&mut self, b: u8)
         ensures { Writes self.old (b ∷ []) self.new }
     {
-        let at = self.at;
-        if at < self.out.len() {
-            self.out[at] = b;
-        }
-        self.at = at.saturating_add(1);
+        self.at = store(self.out, self.at, b);
     }
 
-    // The bytes of s, one after the other, also those for which there is no room. It stands apart, so that what calls `put_bytes` stays
-    // short.
+    // The bytes of s, also those for which there is no room. It stands apart, so that what calls `put_bytes` stays short.
     #[inline(never)]
     fn put_each(&mut self, s: &[u8])
         ensures { Writes self.old s.now self.new }
     {
-        for &b in s {
-            self.put(b);
-        }
+        self.at = store_each(self.out, self.at, s);
     }
 
     // The bytes of s. Where all of them fit, as nearly always, they are stored at once: one by one the page would be read and written
@@ -67,14 +60,12 @@ impl Page<'_> {
         }
     }
 
-    // The byte b, n times, one after the other, as `put_each`.
+    // The byte b, n times, as `put_each`.
     #[inline(never)]
     fn put_again(&mut self, b: u8, n: usize)
         ensures { Writes self.old (replicate n b) self.new }
     {
-        for _ in 0..n {
-            self.put(b);
-        }
+        self.at = store_again(self.out, self.at, b, n);
     }
 
     // The byte b, n times.
@@ -181,28 +172,11 @@ impl Page<'_> {
         self.put_dec(u64::from(x.unsigned_abs()));
     }
 
-    // A character; for one line, a space in place of a line feed.
-    fn put_char(&mut self, c: &[u8], one: bool)
-        ensures { Writes self.old (shown_all (flat one (char c.now ∷ []))) self.new }
-    {
-        if c.len() == 1 {
-            let b = c[0];
-            self.put(if one && b == b'\n' { b' ' } else { b });
-        } else {
-            self.put_bytes(c);
-        }
-    }
-
     // The text, with U+FFFD for what is ill-formed; for one line, spaces in place of line feeds.
     fn put_chunks(&mut self, text: &[u8], one: bool)
         ensures { Writes self.old (shown_all (flat one (chunks text.now))) self.new }
     {
-        for part in (Chunks { rest: text }) {
-            match part {
-                Chunk::Char(c) => self.put_char(c, one),
-                Chunk::Junk(_) => self.put_bytes(b"\xef\xbf\xbd"),
-            }
-        }
+        self.at = store_chunks(self.out, self.at, text, one);
     }
 
     // The text, as `String::from_utf8_lossy` has it. One that is well-formed is written as it stands.
@@ -229,6 +203,71 @@ impl Page<'_> {
     }
 }
 
+// One byte at a place of an output: it is stored if it fits, and it counts either way. What is written byte by byte has its count as
+// a value: a page's would be loaded and stored for each byte.
+#[inline(always)]
+fn store(out: &mut [u8], at: usize, b: u8) -> usize
+    ensures { Wrote out.old at (b ∷ []) out.new result }
+{
+    if at < out.len() {
+        out[at] = b;
+        at + 1
+    } else {
+        at.saturating_add(1)
+    }
+}
+
+// The bytes of s, one after the other.
+#[inline(always)]
+fn store_each(out: &mut [u8], at: usize, s: &[u8]) -> usize
+    ensures { Wrote out.old at s.now out.new result }
+{
+    let mut at = at;
+    for &b in s {
+        at = store(out, at, b);
+    }
+    at
+}
+
+// The byte b, n times, one after the other.
+fn store_again(out: &mut [u8], at: usize, b: u8, n: usize) -> usize
+    ensures { Wrote out.old at (replicate n b) out.new result }
+{
+    let mut at = at;
+    for _ in 0..n {
+        at = store(out, at, b);
+    }
+    at
+}
+
+// A character; for one line, a space in place of a line feed.
+#[inline(always)]
+fn store_char(out: &mut [u8], at: usize, c: &[u8], one: bool) -> usize
+    ensures { Wrote out.old at (shown_all (flat one (char c.now ∷ []))) out.new result }
+{
+    if c.len() == 1 {
+        let b = c[0];
+        store(out, at, if one && b == b'\n' { b' ' } else { b })
+    } else {
+        store_each(out, at, c)
+    }
+}
+
+// The parts of a text, one after the other, as `put_chunks`.
+#[inline(never)]
+fn store_chunks(out: &mut [u8], at: usize, text: &[u8], one: bool) -> usize
+    ensures { Wrote out.old at (shown_all (flat one (chunks text.now))) out.new result }
+{
+    let mut at = at;
+    for part in (Chunks { rest: text }) {
+        at = match part {
+            Chunk::Char(c) => store_char(out, at, c, one),
+            Chunk::Junk(_) => store_each(out, at, b"\xef\xbf\xbd"),
+        };
+    }
+    at
+}
+
 // How many numbers a byte of a template takes.
 fn takes_of(b: u8) -> usize
     ensures number { result ≡ takes b }
@@ -249,11 +288,12 @@ pub fn signed16(u: u16) -> i16
 pub fn lossy_len(text: &[u8]) -> u64
     ensures { result ≡ min (length (lossy text.now)) (2 ^ 64 - 1) }
 {
-    if is_utf8(text) {
-        return text.len() as u64;
+    let mut len: u64 = 0;
+    for part in (Chunks { rest: text }) {
+        len = len.saturating_add(match part {
+            Chunk::Char(c) => c.len() as u64,
+            Chunk::Junk(_) => 3,
+        });
     }
-    let mut none = [];
-    let mut page = Page::new(&mut none);
-    page.put_lossy(text);
-    page.at as u64
+    len
 }

@@ -128,8 +128,11 @@ impl<'a> Iterator for Chunks<'a> {
 pub fn lead_of(b: u8) -> Lead
     ensures { result ≡ lead_of b }
 {
+    // before the others, as most bytes are: in one match the single numbers are told apart first
+    if b < 0x80 {
+        return Lead::Ascii;
+    }
     let (lo, hi, more) = match b {
-        0..=0x7f => return Lead::Ascii,
         0xc2..=0xdf => (0x80, 0xbf, 0),
         0xe0 => (0xa0, 0xbf, 1),
         0xed => (0x80, 0x9f, 1),
