@@ -7,10 +7,8 @@ use mathlib.Core.List.{List, [], ◌∷◌, ◌++◌, append_assoc}
 use lib.ListN.{length, take, drop, replicate, length-append, length-drop, length-replicate, take-append-drop}
 use Rattle.std.proofs.lemmas.List.{length-take-le, drop-drop}
 use lib.Seq.{set-append_seam}
-use borrow.Rule.Slice.Mut.{set_vals}
 use borrow.Rule.Slice.PartMut.{put_mid, Post-is}
-use Rattle.fmt.specs.Text.{Page, page, step, emit, Wrote, Writes}
-use Rattle.fmt.specs.declared.Page as lent
+use Rattle.fmt.specs.Text.{Page, page, step, emit, Wrote}
 use Rattle.fmt.proofs.Text.{output}
 
 -- the count
@@ -66,15 +64,12 @@ emit_fits out t at h k =
     page_is (emit (page out at) t)
     ∙ ap₂ page (rw (take-append-drop, front, drop-drop) at stored) (omega (arith, counts))
 
--- the same of the code's `Page`, whose output becomes o
-pub stores : (p : lent.Page) (n : ℕ) (t o : List ℕ) → length t ≡ n → p.at + n ≤ length p.out.now → length p.out.now < 2 ^ 63
-    → o ≡ put_mid p.at (p.at + n - p.at) p.out.now t → Writes p t (record { out = set_vals o p.out; at = p.at + n })
-stores p n t o long h k e =
+-- the same of the code, where the output becomes o
+pub stores : (out t o : List ℕ) (at n : ℕ) → length t ≡ n → at + n ≤ length out → length out < 2 ^ 63 → o ≡ put_mid at (at + n - at) out t
+    → Wrote out at t o (at + n)
+stores out t o at n long h k e =
     record {
-      same_reference = refl;
-      wrote = record {
-        is = rw (e, Post-is p.at (p.at + n) p.out.now (omega arith), ← long) (sym (emit_fits p.out.now t p.at (omega (arith, long)) (omega (arith, long))));
-      };
+      is = rw (e, Post-is at (at + n) out (omega arith), ← long) (sym (emit_fits out t at (omega (arith, long)) (omega (arith, long))));
     }
 
 pub drop_replicate : (k n v : ℕ) → drop k (replicate n v) ≡ replicate (n - k) v

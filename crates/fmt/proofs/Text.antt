@@ -1,9 +1,10 @@
 -- Writing one text after the other is writing both: the laws by which callers put calls together. Assumes nothing.
-use Prim.Native.Nat.{ℕ, ◌+◌, ◌<◌}
+use Prim.Native.Nat.{ℕ, ◌+◌, ◌^◌, ◌<◌}
+use native.Mathlib.Omega.{arith}
 use native.Mathlib.Numerals.{add-one}
-use mathlib.Core.Path.{◌≡◌, refl, sym, ap, ◌∙◌}
+use mathlib.Core.Path.{◌≡◌, refl, sym, ap, ap₂, ◌∙◌}
 use mathlib.Core.List.{List, [], ◌∷◌, ◌++◌}
-use lib.ListN.{length, get_or, take, replicate, replicate-append-replicate, length-set}
+use lib.ListN.{length, get_or, set, take, replicate, replicate-append-replicate, length-set}
 use lib.Seq.{take-suc}
 use Rattle.fmt.specs.Text.{Page, page, step, emit, Wrote, Writes}
 use Rattle.fmt.specs.declared.Page as lent
@@ -44,6 +45,11 @@ length_emit p (b ∷ t) = length_emit (step p b) t ∙ length_step p b
 
 pub same_length : {out : List ℕ} {at : ℕ} {t : List ℕ} {out' : List ℕ} {at' : ℕ} → Wrote out at t out' at' → length out' ≡ length out
 same_length {out} {at} {t} w = ap (λ (p : Page). length (output p)) w.is ∙ length_emit (page out at) t
+
+-- a byte is stored at a place that the output has
+pub stored : (out : List ℕ) (at b : ℕ) → at + 1 < 2 ^ 64 → Wrote out at (b ∷ []) (set out at b) (at + 1)
+unfolding emit step
+stored out at b h = record { is = ap₂ page refl (omega arith) }
 
 -- one turn of a loop that writes the bytes of s, and of one that writes the byte b again and again
 module _ {out out' out'' : List ℕ} {at at' at'' : ℕ} where

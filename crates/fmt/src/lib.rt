@@ -36,50 +36,19 @@ impl Page<'_> {
         self.at = store(self.out, self.at, b);
     }
 
-    // The bytes of s, also those for which there is no room. It stands apart, so that what calls `put_bytes` stays short.
-    #[inline(never)]
-    fn put_each(&mut self, s: &[u8])
-        ensures { Writes self.old s.now self.new }
-    {
-        self.at = store_each(self.out, self.at, s);
-    }
-
-    // The bytes of s. Where all of them fit, as nearly always, they are stored at once: one by one the page would be read and written
-    // for each.
+    // The bytes of s.
     #[inline]
     pub fn put_bytes(&mut self, s: &[u8])
         ensures { Writes self.old s.now self.new }
     {
-        let at = self.at;
-        let out = &mut *self.out;
-        if at <= out.len() && s.len() <= out.len() - at {
-            out[at..at + s.len()].copy_from_slice(s);
-            self.at = at + s.len();
-        } else {
-            self.put_each(s);
-        }
-    }
-
-    // The byte b, n times, as `put_each`.
-    #[inline(never)]
-    fn put_again(&mut self, b: u8, n: usize)
-        ensures { Writes self.old (replicate n b) self.new }
-    {
-        self.at = store_again(self.out, self.at, b, n);
+        self.at = store_bytes(self.out, self.at, s);
     }
 
     // The byte b, n times.
     pub fn put_times(&mut self, b: u8, n: usize)
         ensures { Writes self.old (replicate n b) self.new }
     {
-        let at = self.at;
-        let out = &mut *self.out;
-        if at <= out.len() && n <= out.len() - at {
-            out[at..at + n].fill(b);
-            self.at = at + n;
-        } else {
-            self.put_again(b, n);
-        }
+        self.at = store_times(self.out, self.at, b, n);
     }
 
     // The digit that stands for a number below 16.
@@ -203,8 +172,8 @@ impl Page<'_> {
     }
 }
 
-// One byte at a place of an output: it is stored if it fits, and it counts either way. What is written byte by byte has its count as
-// a value: a page's would be loaded and stored for each byte.
+// One byte at a place of an output: it is stored if it fits, and it counts either way. What is written has its output and its count as
+// values: a page's would be loaded and stored for each byte.
 #[inline(always)]
 fn store(out: &mut [u8], at: usize, b: u8) -> usize
     ensures { Wrote out.old at (b ∷ []) out.new result }
@@ -229,7 +198,34 @@ fn store_each(out: &mut [u8], at: usize, s: &[u8]) -> usize
     at
 }
 
-// The byte b, n times, one after the other.
+// The bytes of s, also those for which there is no room. It stands apart, so that what calls `put_bytes` stays short.
+#[inline(never)]
+fn store_past(out: &mut [u8], at: usize, s: &[u8]) -> usize
+    ensures { Wrote out.old at s.now out.new result }
+{
+    store_each(out, at, s)
+}
+
+// The bytes of s. Where all of them fit, as nearly always, they are stored without a test for each; not by `copy_from_slice`, for which
+// an archive for C needs `memmove` from outside.
+#[inline]
+fn store_bytes(out: &mut [u8], at: usize, s: &[u8]) -> usize
+    ensures { Wrote out.old at s.now out.new result }
+{
+    if at <= out.len() && s.len() <= out.len() - at {
+        let mut end = at;
+        for &b in s {
+            out[end] = b;
+            end += 1;
+        }
+        end
+    } else {
+        store_past(out, at, s)
+    }
+}
+
+// The byte b, n times, as `store_past`.
+#[inline(never)]
 fn store_again(out: &mut [u8], at: usize, b: u8, n: usize) -> usize
     ensures { Wrote out.old at (replicate n b) out.new result }
 {
@@ -238,6 +234,18 @@ fn store_again(out: &mut [u8], at: usize, b: u8, n: usize) -> usize
         at = store(out, at, b);
     }
     at
+}
+
+// The byte b, n times, as `store_bytes`.
+fn store_times(out: &mut [u8], at: usize, b: u8, n: usize) -> usize
+    ensures { Wrote out.old at (replicate n b) out.new result }
+{
+    if at <= out.len() && n <= out.len() - at {
+        out[at..at + n].fill(b);
+        at + n
+    } else {
+        store_again(out, at, b, n)
+    }
 }
 
 // A character; for one line, a space in place of a line feed.

@@ -1,12 +1,12 @@
 -- The byte is stored, or nothing changes since it stands past the end.
-use Rattle.std.proofs.Common.{arith, refl, ap₂}
+use Rattle.std.proofs.Common.{arith}
 use Rattle.std.proofs.lemmas.List.{set_past}
-use Rattle.fmt.specs.Text.{page, step, emit}
+use Rattle.fmt.specs.Text.{step, emit}
+use Rattle.fmt.proofs.Text.{stored}
 use Rattle.fmt.proofs.store.Goals as goal
 
 pub returns-then-at-out : goal.returns-then-at-out
-unfolding emit step
-returns-then-at-out c = record { is = ap₂ page refl (omega arith) }
+returns-then-at-out c = stored _ _ _ (omega arith)
 
 pub returns-else-at-out : goal.returns-else-at-out
 unfolding emit step
